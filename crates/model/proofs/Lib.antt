@@ -1,0 +1,5 @@
+pub mod Order
+pub mod Members
+pub mod Ascents
+pub mod Ranks
+pub mod SetLaws

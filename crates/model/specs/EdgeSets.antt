@@ -1,0 +1,81 @@
+-- A set of edges is the list of its edges in ascending order: by from, then by to. Two sets are equal
+-- when the lists are.
+use Prim.Native.Nat.{ℕ, suc, _<_, _≤_}
+use mathlib.Core.Path.{_≡_}
+use mathlib.Core.Bool.{Bool, true, false, cond, _&&_, _||_}
+use mathlib.Core.List.{List, [], _∷_}
+use lib.Dec.{eqb, ltb}
+use lib.ListN.{length, getD}
+use Rattle.std.specs.Holes.{inserted, removed}
+use Rattle.model.specs.declared.edges.Edge.{Edge}
+use Rattle.model.specs.declared.edges.Change.{Change}
+use Rattle.model.specs.declared.edges.Change.the-variants.{Add, Remove}
+use Rattle.model.specs.Graph.{edge, vault-edge}
+
+abbrev pub Edges : Type 0
+Edges = List Edge
+
+abbrev pub same : Edge → Edge → Bool
+same d e = eqb (d .from) (e .from) && eqb (d .to) (e .to)
+
+abbrev pub before : Edge → Edge → Bool
+before d e = ltb (d .from) (e .from) || (eqb (d .from) (e .from) && ltb (d .to) (e .to))
+
+abbrev pub ascends : Edges → Bool
+ascends [] = true
+ascends (d ∷ []) = true
+ascends (d ∷ e ∷ s) = before d e && ascends (e ∷ s)
+
+abbrev pub Ascending : Edges → Type 0
+Ascending s = ascends s ≡ true
+
+abbrev pub has : Edges → Edge → Bool
+has [] e = false
+has (d ∷ s) e = same d e || has s e
+
+infix 40 _∈_
+abbrev pub _∈_ : Edge → Edges → Type 0
+e ∈ s = has s e ≡ true
+
+infix 40 _∉_
+abbrev pub _∉_ : Edge → Edges → Type 0
+e ∉ s = has s e ≡ false
+
+abbrev pub insert : Edge → Edges → Edges
+insert e [] = e ∷ []
+insert e (d ∷ s) = cond (same d e) (d ∷ s) (cond (before e d) (e ∷ d ∷ s) (d ∷ insert e s))
+
+abbrev pub delete : Edge → Edges → Edges
+delete e [] = []
+delete e (d ∷ s) = cond (same d e) (delete e s) (d ∷ delete e s)
+
+-- a change, performed
+abbrev pub perform : Change → Edges → Edges
+perform (Add e) s = insert e s
+perform (Remove e) s = delete e s
+
+-- whether all edges of the set are vault edges
+abbrev pub all-vault : Edges → Bool
+all-vault [] = true
+all-vault (d ∷ s) = vault-edge d && all-vault s
+
+-- Where an edge stands in the list
+
+-- what is read past the end of a list of edges
+abbrev pub no-edge : Edge
+no-edge = edge 0 0
+
+-- e stands at place i
+pub record Found (e : Edge) (s : Edges) (i : ℕ) : Type 0 where
+  pub within : i < length s
+  pub is : getD s i no-edge ≡ e
+  pub held : e ∈ s
+  pub kept : insert e s ≡ s
+  pub out : delete e s ≡ removed s i
+
+-- e is absent, and would go to place i
+pub record Absent (e : Edge) (s : Edges) (i : ℕ) : Type 0 where
+  pub within : i ≤ length s
+  pub lacks : e ∉ s
+  pub into : insert e s ≡ inserted s i e
+  pub kept : delete e s ≡ s

@@ -1,0 +1,4 @@
+pub mod Graph
+pub mod Kinds
+pub mod EdgeSets
+pub mod SetLaws

@@ -1,0 +1,4 @@
+pub mod edges;
+pub mod kinds;
+pub mod laws;
+pub mod layers;
