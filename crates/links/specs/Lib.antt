@@ -1,0 +1,5 @@
+pub mod Faults
+pub mod Waiting
+pub mod Queues
+pub mod Frames
+pub mod Makes

@@ -1,0 +1,9 @@
+mod cycle;
+mod cycle_calls;
+pub mod faults;
+mod frames;
+pub mod link;
+pub mod packed;
+pub mod packed_calls;
+pub mod ring;
+pub mod ring_calls;
