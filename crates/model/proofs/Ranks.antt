@@ -9,13 +9,13 @@ use lib.ListN.{length, getD}
 use Rattle.std.specs.Holes.{inserted, removed}
 use Rattle.std.proofs.shelf.Tests.{or-left, or-right, or-from}
 use Rattle.model.specs.declared.edges.Edge.{Edge}
-use Rattle.model.specs.EdgeSets.{Edges, same, before, Ascending, has, insert, delete, no-edge, Found, Absent}
+use Rattle.model.specs.EdgeSets.{Edges, same, before, Ascending, has, insert, delete, no-edge, Stands, Between, Found, Absent}
 use Rattle.model.proofs.Order.{same-refl, same-equal, same-sym, before-trans, before-total, before-differs, before-not-after}
 use Rattle.model.proofs.Members.{delete-absent}
 use Rattle.model.proofs.Ascents.{asc-tail, asc-step, asc-first, asc-absent, insert-held}
 
 -- the edges in front of one before e are before e
-pub front-before : (e : Edge) (d : Edge) (s : Edges) (i : ℕ) → Ascending (d ∷ s) → i < length s → before (getD s i no-edge) e ≡ true → before d e ≡ true
+front-before : (e : Edge) (d : Edge) (s : Edges) (i : ℕ) → Ascending (d ∷ s) → i < length s → before (getD s i no-edge) e ≡ true → before d e ≡ true
 front-before e d [] i h l b = absurd (omega arith)
 front-before e d (x ∷ s) zero h l b = before-trans d x e (asc-step d x s h .0) b
 front-before e d (x ∷ s) (suc i) h l b =
@@ -23,7 +23,7 @@ front-before e d (x ∷ s) (suc i) h l b =
     before-trans d x e (p .0) (front-before e x s i (p .1) (omega arith) b)
 
 -- e stands at i: the edge there is e
-pub found-at : (e : Edge) (s : Edges) (i : ℕ) → Ascending s → i < length s → same (getD s i no-edge) e ≡ true → Found e s i
+found-at : (e : Edge) (s : Edges) (i : ℕ) → Ascending s → i < length s → same (getD s i no-edge) e ≡ true → Found e s i
 found-at e [] i h l q = absurd (omega arith)
 found-at e (d ∷ s) zero h l q =
     let is : d ≡ e = same-equal d e q in
@@ -50,7 +50,7 @@ found-at e (d ∷ s) (suc i) h l q =
     first k = asc-first d s e h k
 
 -- e would stand at i: the edge in front of i is before e, and e is before the edge at i
-pub absent-at : (e : Edge) (s : Edges) (i : ℕ) → Ascending s → i ≤ length s → ((j : ℕ) → i ≡ suc j → before (getD s j no-edge) e ≡ true)
+absent-at : (e : Edge) (s : Edges) (i : ℕ) → Ascending s → i ≤ length s → ((j : ℕ) → i ≡ suc j → before (getD s j no-edge) e ≡ true)
     → (i < length s → before e (getD s i no-edge) ≡ true) → Absent e s i
 absent-at e [] zero h l lower upper = record { within = l; lacks = refl; into = refl; kept = refl }
 absent-at e [] (suc i) h l lower upper = absurd (omega arith)
@@ -77,3 +77,12 @@ absent-at e (d ∷ s) (suc i) h l lower upper =
     outer : (i : ℕ) → i ≤ length s → before (getD (d ∷ s) i no-edge) e ≡ true → before d e ≡ true
     outer zero k b = b
     outer (suc j) k b = front-before e d s j h (omega arith) b
+
+-- what a search tells of an ascending list
+pub found : (e : Edge) (s : Edges) (i : ℕ) → Ascending s → Stands e s i → Found e s i
+found e s i h q = found-at e s i h (q .0) (q .1)
+
+pub absent : (e : Edge) (s : Edges) (i : ℕ) → Ascending s → Between e s i → Absent e s i
+absent e s i h q =
+    absent-at e s i h (q .within) (q .lower)
+    (λ l. let u = q .upper l in before-total e (getD s i no-edge) (same-sym (getD s i no-edge) e (u .1)) (u .0))

@@ -59,13 +59,28 @@ abbrev pub all-vault : Edges → Bool
 all-vault [] = true
 all-vault (d ∷ s) = vault-edge d && all-vault s
 
+-- what a vault can be told and what a table holds: at most 512 vault edges
+pub record Table (s : Edges) : Type 0 where
+  pub ascending : Ascending s
+  pub few : length s ≤ 512
+  pub vault : all-vault s ≡ true
+
 -- Where an edge stands in the list
 
 -- what is read past the end of a list of edges
 abbrev pub no-edge : Edge
 no-edge = edge 0 0
 
--- e stands at place i
+-- a search for e ends at place i of a list: e stands there, or the neighbours are on either side of e
+abbrev pub Stands : Edge → Edges → ℕ → Type 0
+Stands e s i = (i < length s) × (same (getD s i no-edge) e ≡ true)
+
+pub record Between (e : Edge) (s : Edges) (i : ℕ) : Type 0 where
+  pub within : i ≤ length s
+  pub lower : (j : ℕ) → i ≡ suc j → before (getD s j no-edge) e ≡ true
+  pub upper : i < length s → (before (getD s i no-edge) e ≡ false) × (same (getD s i no-edge) e ≡ false)
+
+-- in a set: e stands at place i
 pub record Found (e : Edge) (s : Edges) (i : ℕ) : Type 0 where
   pub within : i < length s
   pub is : getD s i no-edge ≡ e

@@ -1,4 +1,5 @@
 pub mod Graph
 pub mod Kinds
 pub mod EdgeSets
+pub mod Cells
 pub mod SetLaws

@@ -2,3 +2,4 @@ pub mod edges;
 pub mod kinds;
 pub mod laws;
 pub mod layers;
+pub mod places;
