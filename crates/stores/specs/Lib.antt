@@ -1,0 +1,4 @@
+pub mod Faults
+pub mod Putting
+pub mod Flags
+pub mod Makes
