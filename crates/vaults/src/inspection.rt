@@ -1,0 +1,37 @@
+ghost use mathlib.Core.Path.{_≡_};
+ghost use Rattle.std.specs.Orderings.{When};
+ghost use Rattle.std.specs.Results.{Cases};
+ghost use Rattle.vaults.specs.Sites.{site-at};
+ghost use Rattle.vaults.specs.Fitness.{Fit-site, Fit};
+use crate::bank::Bank;
+use crate::faults::BankFault;
+
+// Whether a vault is empty and has limits that one may have.
+fn is_fit<B: Bank>(bank: &B, vault: usize) -> bool
+    ensures { λ r. ⌜ When r (Fit-site (site-at (sites (now (bank .entry))) vault)) (Fit-site (site-at (sites (now (bank .entry))) vault) → ⊥) ⌝ }
+{
+    let waiting = bank.waiting(vault);
+    let held = bank.held(vault);
+    let link_limit = bank.link_limit(vault);
+    let store_limit = bank.store_limit(vault);
+    if waiting > 0 || held > 0 {
+        return false;
+    }
+    1 <= store_limit && store_limit <= 512 && 2 <= link_limit && link_limit <= 1024
+}
+
+// Whether an installation can work with a bank: 1 to 8 vaults, store limits 1 to 512, link limits 2
+// to 1024, all empty. If not, it is refused with 19.
+pub fn inspect<B: Bank>(bank: &B) -> Result<(), BankFault>
+    ensures { λ r. ⌜ Cases r (λ _. Fit (sites (now (bank .entry)))) (λ f. (f ≡ BankFault.Unfit) × (Fit (sites (now (bank .entry))) → ⊥)) ⌝ }
+{
+    if !bank.has(0) || bank.has(8) {
+        return Err(BankFault::Unfit);
+    }
+    for vault in 0..8 {
+        if bank.has(vault) && !is_fit(bank, vault) {
+            return Err(BankFault::Unfit);
+        }
+    }
+    Ok(())
+}

@@ -1,0 +1,148 @@
+ghost use mathlib.Core.List.{[], _∷_};
+ghost use Rattle.vaults.specs.Sites.{Site};
+use crate::bank::Bank;
+use crate::faults::BankFault;
+use crate::faults::FromLinkFault;
+use crate::faults::FromStoreFault;
+use crate::vault::Vault;
+use links::link::Link;
+use model::edges::Change;
+use model::edges::Edge;
+use stores::store::Reader;
+use stores::store::Store;
+
+// The bank without vaults.
+pub impl Bank for () as NoBank {
+    ghost sites = { λ _. [] };
+
+    ghost tables = { λ _. tt };
+
+    fn has(&self, vault: usize) -> bool {
+        false
+    }
+
+    fn send(&mut self, vault: usize, message: Change) -> Result<(), BankFault> {
+        Err(BankFault::NoVault)
+    }
+
+    fn head(&self, vault: usize) -> Option<Change> {
+        None
+    }
+
+    fn strike(&mut self, vault: usize) -> Result<(), BankFault> {
+        Err(BankFault::NoVault)
+    }
+
+    fn waiting(&self, vault: usize) -> usize {
+        0
+    }
+
+    fn link_limit(&self, vault: usize) -> usize {
+        0
+    }
+
+    fn put(&mut self, vault: usize, edge: Edge) -> Result<(), BankFault> {
+        Err(BankFault::NoVault)
+    }
+
+    fn drop(&mut self, vault: usize, edge: Edge) -> Result<(), BankFault> {
+        Err(BankFault::NoVault)
+    }
+
+    fn holds(&self, vault: usize, edge: Edge) -> bool {
+        false
+    }
+
+    fn held(&self, vault: usize) -> usize {
+        0
+    }
+
+    fn store_limit(&self, vault: usize) -> usize {
+        0
+    }
+}
+
+// Vault 0, and the bank of the others.
+pub impl<L: Link, S: Store, B: Bank> Bank for (Vault<L, S>, B) as NestedBank {
+    ghost sites = { λ b. record { waiting = L·Link .waiting (b .0 .link); link-limit = L·Link .limit (b .0 .link); table = S·Reader .edges (b .0 .store); store-limit = S·Store .limit (b .0 .store) } ∷ B·Bank .sites (b .1) };
+
+    ghost tables = { λ b. (S·Reader .table (b .0 .store), B·Bank .tables (b .1)) };
+
+    fn has(&self, vault: usize) -> bool {
+        vault == 0 || self.1.has(vault - 1)
+    }
+
+    fn send(&mut self, vault: usize, message: Change) -> Result<(), BankFault> {
+        if vault > 0 {
+            return self.1.send(vault - 1, message);
+        }
+        self.0.link.send(message)?;
+        Ok(())
+    }
+
+    fn head(&self, vault: usize) -> Option<Change> {
+        if vault > 0 {
+            return self.1.head(vault - 1);
+        }
+        self.0.link.head()
+    }
+
+    fn strike(&mut self, vault: usize) -> Result<(), BankFault> {
+        if vault > 0 {
+            return self.1.strike(vault - 1);
+        }
+        self.0.link.strike();
+        Ok(())
+    }
+
+    fn waiting(&self, vault: usize) -> usize {
+        if vault > 0 {
+            return self.1.waiting(vault - 1);
+        }
+        self.0.link.count()
+    }
+
+    fn link_limit(&self, vault: usize) -> usize {
+        if vault > 0 {
+            return self.1.link_limit(vault - 1);
+        }
+        self.0.link.limit()
+    }
+
+    fn put(&mut self, vault: usize, edge: Edge) -> Result<(), BankFault> {
+        if vault > 0 {
+            return self.1.put(vault - 1, edge);
+        }
+        self.0.store.put(edge)?;
+        Ok(())
+    }
+
+    fn drop(&mut self, vault: usize, edge: Edge) -> Result<(), BankFault> {
+        if vault > 0 {
+            return self.1.drop(vault - 1, edge);
+        }
+        self.0.store.drop(edge);
+        Ok(())
+    }
+
+    fn holds(&self, vault: usize, edge: Edge) -> bool {
+        if vault > 0 {
+            return self.1.holds(vault - 1, edge);
+        }
+        self.0.store.holds(edge)
+    }
+
+    fn held(&self, vault: usize) -> usize {
+        if vault > 0 {
+            return self.1.held(vault - 1);
+        }
+        self.0.store.count()
+    }
+
+    fn store_limit(&self, vault: usize) -> usize {
+        if vault > 0 {
+            return self.1.store_limit(vault - 1);
+        }
+        self.0.store.limit()
+    }
+}
