@@ -9,7 +9,7 @@ use Rattle.std.specs.Finite.{nth}
 use Rattle.std.specs.declared.option.Option.the-variants.{Some, None}
 use Rattle.std.proofs.shelf.Counted.{length-map-counting, getD-map-counting}
 use Rattle.std.proofs.shelf.Maps.{nth-getD, nth-past}
-use Rattle.model.specs.declared.edges.Change.{Change}
+use Rattle.terms.specs.declared.edges.Change.{Change}
 use Rattle.links.specs.declared.cycle.Cycle.{Cycle}
 use Rattle.links.specs.Waiting.{rest}
 use Rattle.links.specs.Queues.{place, queue, waits, Else}

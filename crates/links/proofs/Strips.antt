@@ -9,8 +9,8 @@ use lib.ListN.{length, getD, take, drop, length-append, length-take, length-drop
 use lib.Seq.{drop-drop, getD-drop}
 use Rattle.std.proofs.shelf.Lists.{places, take-all, drop-all, getD-append-right}
 use Rattle.std.proofs.shelf.Tests.{cases-lt}
-use Rattle.model.specs.declared.edges.Change.{Change}
-use Rattle.model.specs.declared.edges.Change.the-variants.{Add, Remove}
+use Rattle.terms.specs.declared.edges.Change.{Change}
+use Rattle.terms.specs.declared.edges.Change.the-variants.{Add, Remove}
 use Rattle.links.specs.Frames.{frame, framed, unframed}
 
 unframed-same : (s s′ f f′ t t′ : ℕ) → s ≡ s′ → f ≡ f′ → t ≡ t′ → unframed s f t ≡ unframed s′ f′ t′

@@ -4,9 +4,9 @@ use mathlib.Core.Bool.{cond}
 use mathlib.Core.List.{List, [], _∷_}
 use lib.Dec.{eqb}
 use lib.ListN.{getD}
-use Rattle.model.specs.declared.edges.Change.{Change}
-use Rattle.model.specs.declared.edges.Change.the-variants.{Add, Remove}
-use Rattle.model.specs.Graph.{edge}
+use Rattle.terms.specs.declared.edges.Change.{Change}
+use Rattle.terms.specs.declared.edges.Change.the-variants.{Add, Remove}
+use Rattle.terms.specs.Graph.{edge}
 
 abbrev pub frame : Change → List ℕ
 frame (Add e) = 43 ∷ (e .from ∷ (e .to ∷ []))

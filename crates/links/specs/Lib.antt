@@ -1,4 +1,3 @@
-pub mod Faults
 pub mod Waiting
 pub mod Queues
 pub mod Frames

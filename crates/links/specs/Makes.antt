@@ -3,9 +3,9 @@ use mathlib.Core.List.{List}
 use Prim.Native.Nat.{ℕ}
 use lib.ListN.{getD}
 use Rattle.std.specs.Of.Vec.{vec-items}
-use Rattle.model.specs.declared.edges.Change.{Change}
-use Rattle.model.specs.declared.edges.Change.the-variants.{Add}
-use Rattle.model.specs.Graph.{edge}
+use Rattle.terms.specs.declared.edges.Change.{Change}
+use Rattle.terms.specs.declared.edges.Change.the-variants.{Add}
+use Rattle.terms.specs.Graph.{edge}
 use Rattle.links.specs.declared.ring.Ring.{Ring}
 use Rattle.links.specs.declared.packed.Packed.{Packed}
 use Rattle.links.specs.Queues.{waits}

@@ -5,7 +5,7 @@ use mathlib.Core.Bool.{cond, true, false}
 use mathlib.Core.List.{List, map}
 use lib.Dec.{ltb}
 use Rattle.std.specs.Iters.{counting}
-use Rattle.model.specs.declared.edges.Change.{Change}
+use Rattle.terms.specs.declared.edges.Change.{Change}
 use Rattle.links.specs.declared.cycle.Cycle.{Cycle}
 
 -- the k-th place from start on, round a ring of n places

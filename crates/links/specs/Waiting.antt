@@ -8,10 +8,10 @@ use Rattle.std.specs.declared.option.Option.{Option}
 use Rattle.std.specs.Finite.{nth}
 use Rattle.std.specs.declared.result.Result.{Result}
 use Rattle.std.specs.declared.result.Result.the-variants.{Ok, Err}
-use Rattle.model.specs.declared.edges.Change.{Change}
-use Rattle.model.specs.Graph.{edge-of, vault-edge}
-use Rattle.links.specs.declared.faults.LinkFault.{LinkFault}
-use Rattle.links.specs.declared.faults.LinkFault.the-variants.{NoVaultEdge, Full}
+use Rattle.terms.specs.declared.edges.Change.{Change}
+use Rattle.terms.specs.Graph.{edge-of, vault-edge}
+use Rattle.faults.specs.declared.link.LinkFault.{LinkFault}
+use Rattle.faults.specs.declared.link.LinkFault.the-variants.{NoVaultEdge, Full}
 
 -- whether a message is taken where n wait: the first question that is answered no
 abbrev pub admits : ℕ → ℕ → Change → Result (Unit {0}) LinkFault

@@ -2,7 +2,7 @@ ghost use Prim.Native.Nat.{ℕ, _+_, _<_, _≤_};
 ghost use mathlib.Core.Path.{_≡_};
 ghost use mathlib.Core.List.{[], _∷_, _++_};
 ghost use lib.ListN.{length};
-ghost use Rattle.model.specs.declared.edges.Change.{Change};
+ghost use Rattle.terms.specs.declared.edges.Change.{Change};
 ghost use Rattle.links.specs.Waiting.{link-limit, rest};
 ghost use Rattle.links.specs.Queues.{place, waits, Else};
 use crate::cycle::Cycle;

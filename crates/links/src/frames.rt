@@ -3,10 +3,10 @@ ghost use mathlib.Core.Path.{_≡_};
 ghost use mathlib.Core.Bool.{true};
 ghost use mathlib.Core.List.{_++_};
 ghost use lib.ListN.{length, drop};
-ghost use Rattle.model.specs.Graph.{edge-of, vault-edge};
+ghost use Rattle.terms.specs.Graph.{edge-of, vault-edge};
 ghost use Rattle.links.specs.Frames.{frame, framed};
-use model::edges::Change;
-use model::edges::Edge;
+use terms::edges::Change;
+use terms::edges::Edge;
 
 // Writes the frame of a message at the front of `out`.
 pub(crate) fn write_frame(out: &mut [u8], message: Change)

@@ -1,6 +1,5 @@
 mod cycle;
 mod cycle_calls;
-pub mod faults;
 mod frames;
 pub mod link;
 pub mod packed;

@@ -2,15 +2,15 @@ ghost use mathlib.Core.Path.{_≡_};
 ghost use mathlib.Core.List.{List};
 ghost use Prim.Native.Nat.{ℕ, _≤_};
 ghost use lib.ListN.{length};
-ghost use Rattle.model.specs.declared.edges.Change.{Change};
+ghost use Rattle.terms.specs.declared.edges.Change.{Change};
 ghost use Rattle.links.specs.Waiting.{sent, send-answer, first, rest};
 ghost use mathlib.Core.Bool.{true};
 ghost use Prim.Native.Nat.{_<_};
 ghost use Rattle.std.specs.Vec.{made};
-ghost use Rattle.model.specs.Graph.{edge-of, vault-edge};
+ghost use Rattle.terms.specs.Graph.{edge-of, vault-edge};
 ghost use Rattle.links.specs.Waiting.{admits};
-use crate::faults::LinkFault;
-use model::edges::Change;
+use faults::link::LinkFault;
+use terms::edges::Change;
 
 // A link carries messages from the centre to one vault. It means the list of the messages that wait,
 // the oldest first, and a limit on how many may. A make of link says by these two ghost members what

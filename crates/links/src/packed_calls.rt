@@ -5,19 +5,19 @@ ghost use mathlib.Core.List.{[], _∷_, _++_};
 ghost use lib.ListN.{length};
 ghost use Rattle.std.specs.Finite.{nth};
 ghost use Rattle.std.specs.Vec.{made};
-ghost use Rattle.model.specs.Graph.{edge-of, vault-edge};
+ghost use Rattle.terms.specs.Graph.{edge-of, vault-edge};
 ghost use Rattle.links.specs.Waiting.{link-limit};
 ghost use Rattle.links.specs.Makes.{packed-waiting};
 use crate::cycle::Cycle;
-use crate::faults::LinkFault;
 use crate::frames::read_frame;
 use crate::frames::write_frame;
 use crate::link::Link;
 use crate::link::admit;
 use crate::packed::Packed;
-use model::edges::Change;
+use faults::link::LinkFault;
 use std::alloc::AllocError;
 use std::alloc::Global;
+use terms::edges::Change;
 
 impl Packed {
     // An empty strip for `limit` frames, 2 to 1024; with any other number its limit is 0.

@@ -1,7 +1,7 @@
 ghost use mathlib.Core.Path.{_≡_};
 ghost use Rattle.std.specs.Of.Vec.{vec-len};
 use crate::cycle::Cycle;
-use model::edges::Change;
+use terms::edges::Change;
 
 // A link that keeps its messages as records, in a ring of as many slots as its limit.
 #[derive(Drop)]

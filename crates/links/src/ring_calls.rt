@@ -7,14 +7,14 @@ ghost use Rattle.std.specs.Vec.{made};
 ghost use Rattle.links.specs.Waiting.{link-limit};
 ghost use Rattle.links.specs.Makes.{ring-waiting};
 use crate::cycle::Cycle;
-use crate::faults::LinkFault;
 use crate::link::Link;
 use crate::link::admit;
 use crate::ring::Ring;
-use model::edges::Change;
-use model::edges::Edge;
+use faults::link::LinkFault;
 use std::alloc::AllocError;
 use std::alloc::Global;
+use terms::edges::Change;
+use terms::edges::Edge;
 
 impl Ring {
     // An empty ring for `limit` messages, 2 to 1024; with any other number its limit is 0.

@@ -7,10 +7,11 @@ use mathlib.Core.Bool.{Bool, true, false, cond, _&&_}
 use mathlib.Core.List.{[], _∷_}
 use lib.ListN.{length, getD}
 use Rattle.std.proofs.shelf.Tests.{and-parts, and-from, or-cases, or-left, or-right, false≢true, cases-bool, both-ways}
-use Rattle.model.specs.declared.edges.Edge.{Edge}
-use Rattle.model.specs.declared.edges.Change.{Change}
-use Rattle.model.specs.declared.edges.Change.the-variants.{Add, Remove}
-use Rattle.model.specs.EdgeSets.{Edges, same, before, ascends, Ascending, has, insert, delete, perform, _∈_, _∉_, no-edge}
+use Rattle.terms.specs.declared.edges.Edge.{Edge}
+use Rattle.terms.specs.declared.edges.Change.{Change}
+use Rattle.terms.specs.declared.edges.Change.the-variants.{Add, Remove}
+use Rattle.terms.specs.Graph.{same, before}
+use Rattle.model.specs.EdgeSets.{Edges, ascends, Ascending, has, insert, delete, perform, _∈_, _∉_, no-edge}
 use Rattle.model.proofs.Order.{same-refl, same-equal, before-irrefl, before-trans, before-total}
 use Rattle.model.proofs.Members.{delete-absent}
 

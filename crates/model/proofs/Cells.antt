@@ -7,9 +7,9 @@ use mathlib.Core.Bool.{Bool, true, false, cond, _&&_, _||_}
 use mathlib.Core.List.{[], _∷_}
 use Rattle.std.proofs.shelf.Tests.{and-from, or-from, or-left, cond-true, cond-false, cases-order}
 use Rattle.std.proofs.shelf.Ways.{tells}
-use Rattle.model.specs.declared.edges.Edge.{Edge}
-use Rattle.model.specs.Graph.{edge, vault-edge}
-use Rattle.model.specs.EdgeSets.{Edges, same, before, has, insert, delete, Ascending, _∈_, _∉_}
+use Rattle.terms.specs.declared.edges.Edge.{Edge}
+use Rattle.terms.specs.Graph.{edge, vault-edge, same, before}
+use Rattle.model.specs.EdgeSets.{Edges, has, insert, delete, Ascending, _∈_, _∉_}
 use Rattle.model.specs.Cells.{cell, edge-at, listed}
 use Rattle.model.proofs.Order.{same-refl}
 use Rattle.model.proofs.Members.{delete-absent}

@@ -7,9 +7,9 @@ use mathlib.Core.Bool.{Bool, true, false, cond, not, _&&_, _||_}
 use mathlib.Core.List.{[], _∷_}
 use lib.ListN.{length}
 use Rattle.std.proofs.shelf.Tests.{or-cases, or-parts, or-left, or-right, and-parts, not-true, both-ways, false≢true}
-use Rattle.model.specs.declared.edges.Edge.{Edge}
-use Rattle.model.specs.EdgeSets.{Edges, same, before, has, insert, delete, _∈_, _∉_, all-vault}
-use Rattle.model.specs.Graph.{vault-edge}
+use Rattle.terms.specs.declared.edges.Edge.{Edge}
+use Rattle.terms.specs.Graph.{same, before, vault-edge}
+use Rattle.model.specs.EdgeSets.{Edges, has, insert, delete, _∈_, _∉_, all-vault}
 use Rattle.model.proofs.Order.{same-refl, same-equal}
 
 or-twice : (a b : Bool) → (a || b) ≡ (a || (a || b))

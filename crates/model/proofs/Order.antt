@@ -5,9 +5,8 @@ use mathlib.Core.Path.{_≡_}
 use mathlib.Core.Bool.{true, false}
 use Rattle.std.proofs.shelf.Tests.{and-parts, eqb-true}
 use Rattle.std.proofs.shelf.Ways.{tells}
-use Rattle.model.specs.declared.edges.Edge.{Edge}
-use Rattle.model.specs.Graph.{edge}
-use Rattle.model.specs.EdgeSets.{same, before}
+use Rattle.terms.specs.declared.edges.Edge.{Edge}
+use Rattle.terms.specs.Graph.{edge, same, before}
 
 pub same-refl : (e : Edge) → same e e ≡ true
 same-refl e = grind (arith, tells)

@@ -8,8 +8,9 @@ use mathlib.Core.List.{[], _∷_}
 use lib.ListN.{length, getD}
 use Rattle.std.specs.Holes.{inserted, removed}
 use Rattle.std.proofs.shelf.Tests.{or-left, or-right, or-from}
-use Rattle.model.specs.declared.edges.Edge.{Edge}
-use Rattle.model.specs.EdgeSets.{Edges, same, before, Ascending, has, insert, delete, no-edge, Stands, Between, Found, Absent}
+use Rattle.terms.specs.declared.edges.Edge.{Edge}
+use Rattle.terms.specs.Graph.{same, before}
+use Rattle.model.specs.EdgeSets.{Edges, Ascending, has, insert, delete, no-edge, Stands, Between, Found, Absent}
 use Rattle.model.proofs.Order.{same-refl, same-equal, same-sym, before-trans, before-total, before-differs, before-not-after}
 use Rattle.model.proofs.Members.{delete-absent}
 use Rattle.model.proofs.Ascents.{asc-tail, asc-step, asc-first, asc-absent, insert-held}

@@ -4,8 +4,9 @@ use mathlib.Core.Path.{_≡_, refl, sym, ap, _∙_}
 use mathlib.Core.Logic.{_⊎_, inl, inr, _↔_, _≢_}
 use mathlib.Core.Bool.{Bool, true, false, not, _&&_}
 use Rattle.std.proofs.shelf.Tests.{and-from, false≢true}
-use Rattle.model.specs.declared.edges.Edge.{Edge}
-use Rattle.model.specs.EdgeSets.{Edges, same, has, insert, delete, _∈_}
+use Rattle.terms.specs.declared.edges.Edge.{Edge}
+use Rattle.terms.specs.Graph.{same}
+use Rattle.model.specs.EdgeSets.{Edges, has, insert, delete, _∈_}
 use Rattle.model.specs.SetLaws.{Insertion-adds, Deletion-takes, Members-decide, Edge-sets-hold}
 use Rattle.model.proofs.Order.{same-refl, same-equal}
 use Rattle.model.proofs.Members.{insert-new, insert-old, insert-cases, has-delete, delete-old, delete-gone, length-insert}

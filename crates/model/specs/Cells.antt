@@ -2,8 +2,8 @@
 use Prim.Native.Nat.{ℕ, zero, suc, _+_, _*_, _/_, _%_}
 use mathlib.Core.Bool.{Bool, cond}
 use mathlib.Core.List.{[], _∷_}
-use Rattle.model.specs.declared.edges.Edge.{Edge}
-use Rattle.model.specs.Graph.{edge}
+use Rattle.terms.specs.declared.edges.Edge.{Edge}
+use Rattle.terms.specs.Graph.{edge}
 use Rattle.model.specs.EdgeSets.{Edges}
 
 abbrev pub cell : Edge → ℕ

@@ -7,19 +7,13 @@ use mathlib.Core.List.{List, [], _∷_}
 use lib.Dec.{eqb, ltb}
 use lib.ListN.{length, getD}
 use Rattle.std.specs.Holes.{inserted, removed}
-use Rattle.model.specs.declared.edges.Edge.{Edge}
-use Rattle.model.specs.declared.edges.Change.{Change}
-use Rattle.model.specs.declared.edges.Change.the-variants.{Add, Remove}
-use Rattle.model.specs.Graph.{edge, vault-edge}
+use Rattle.terms.specs.declared.edges.Edge.{Edge}
+use Rattle.terms.specs.declared.edges.Change.{Change}
+use Rattle.terms.specs.declared.edges.Change.the-variants.{Add, Remove}
+use Rattle.terms.specs.Graph.{edge, vault-edge, same, before}
 
 abbrev pub Edges : Type 0
 Edges = List Edge
-
-abbrev pub same : Edge → Edge → Bool
-same d e = eqb (d .from) (e .from) && eqb (d .to) (e .to)
-
-abbrev pub before : Edge → Edge → Bool
-before d e = ltb (d .from) (e .from) || (eqb (d .from) (e .from) && ltb (d .to) (e .to))
 
 abbrev pub ascends : Edges → Bool
 ascends [] = true

@@ -1,5 +1,3 @@
-pub mod Graph
-pub mod Kinds
 pub mod EdgeSets
 pub mod Cells
 pub mod SetLaws

@@ -3,7 +3,7 @@ use Prim.Native.Nat.{suc}
 use mathlib.Core.Path.{_≡_}
 use mathlib.Core.Logic.{_⊎_, _↔_, _≢_}
 use lib.ListN.{length}
-use Rattle.model.specs.declared.edges.Edge.{Edge}
+use Rattle.terms.specs.declared.edges.Edge.{Edge}
 use Rattle.model.specs.EdgeSets.{Edges, Ascending, _∈_, _∉_, insert, delete}
 
 -- a set gains the inserted edge and no other

@@ -1,5 +1,2 @@
-pub mod edges;
-pub mod kinds;
 pub mod laws;
-pub mod layers;
 pub mod places;

@@ -3,8 +3,9 @@ ghost use mathlib.Core.Path.{_≡_};
 ghost use mathlib.Core.Bool.{true, false};
 ghost use lib.ListN.{length, getD};
 ghost use Rattle.std.specs.Results.{Cases};
-ghost use Rattle.model.specs.EdgeSets.{before, no-edge, Stands, Between};
-use crate::edges::Edge;
+ghost use Rattle.terms.specs.Graph.{before};
+ghost use Rattle.model.specs.EdgeSets.{no-edge, Stands, Between};
+use terms::edges::Edge;
 
 // The first place from which on no edge comes before `edge`, by halving.
 fn lower(edges: &[Edge], edge: Edge) -> usize

@@ -9,8 +9,8 @@ use lib.Dec.{eqb}
 use lib.ListN.{getD, replicate}
 use Rattle.std.proofs.shelf.Tests.{cases-bool, both-ways}
 use mathlib.Core.Logic.{⊎-elim}
-use Rattle.model.specs.declared.edges.Edge.{Edge}
-use Rattle.model.specs.Graph.{vault-edge}
+use Rattle.terms.specs.declared.edges.Edge.{Edge}
+use Rattle.terms.specs.Graph.{vault-edge}
 use Rattle.model.specs.EdgeSets.{Edges, has, insert, delete, Ascending, _∈_, _∉_, all-vault}
 use Rattle.model.specs.Cells.{cell, edge-at, listed}
 use Rattle.model.proofs.Cells.{cell-within, cell-edge, listed-ascends, has-listed, insert-listed, delete-listed, listed-none}

@@ -1,4 +1,3 @@
-pub mod Faults
 pub mod Putting
 pub mod Flags
 pub mod Makes

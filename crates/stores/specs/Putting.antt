@@ -6,11 +6,11 @@ use lib.Dec.{ltb, leb}
 use lib.ListN.{length}
 use Rattle.std.specs.declared.result.Result.{Result}
 use Rattle.std.specs.declared.result.Result.the-variants.{Ok, Err}
-use Rattle.model.specs.declared.edges.Edge.{Edge}
-use Rattle.model.specs.Graph.{vault-edge}
+use Rattle.terms.specs.declared.edges.Edge.{Edge}
+use Rattle.terms.specs.Graph.{vault-edge}
 use Rattle.model.specs.EdgeSets.{Edges, has, insert, delete}
-use Rattle.stores.specs.declared.faults.StoreFault.{StoreFault}
-use Rattle.stores.specs.declared.faults.StoreFault.the-variants.{NoVaultEdge, Full}
+use Rattle.faults.specs.declared.store.StoreFault.{StoreFault}
+use Rattle.faults.specs.declared.store.StoreFault.the-variants.{NoVaultEdge, Full}
 
 -- there is room for an edge that is held already, and for any while the set is below its limit
 abbrev pub has-room : ℕ → Edges → Edge → Bool

@@ -1,4 +1,3 @@
-pub mod faults;
 pub mod pairs;
 pub mod pairs_calls;
 pub mod rows;

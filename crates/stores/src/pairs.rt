@@ -4,7 +4,7 @@ ghost use Prim.Native.Nat.{_≤_};
 ghost use lib.ListN.{length};
 ghost use Rattle.std.specs.Of.Vec.{vec-items, vec-len, vec-cap};
 ghost use Rattle.model.specs.EdgeSets.{all-vault, ascends};
-use model::edges::Edge;
+use terms::edges::Edge;
 
 // A store that keeps a list of edges, ascending by from, then by to.
 #[derive(Drop)]

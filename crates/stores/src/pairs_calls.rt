@@ -5,20 +5,20 @@ ghost use Prim.Native.Nat.{_<_};
 ghost use Rattle.std.specs.Of.Vec.{vec-len};
 ghost use Rattle.std.specs.Results.{Cases};
 ghost use Rattle.std.specs.Vec.{made};
-ghost use Rattle.model.specs.Graph.{vault-edge};
+ghost use Rattle.terms.specs.Graph.{vault-edge};
 ghost use Rattle.model.specs.EdgeSets.{Found, Absent, insert, delete};
 ghost use Rattle.model.proofs.Tables.{table-of};
 ghost use Rattle.stores.specs.Putting.{store-limit};
 ghost use Rattle.stores.specs.Makes.{pairs-edges};
-use crate::faults::StoreFault;
 use crate::pairs::Pairs;
 use crate::store::Reader;
 use crate::store::Store;
 use crate::store::allowed;
-use model::edges::Edge;
+use faults::store::StoreFault;
 use model::places::find;
 use std::alloc::AllocError;
 use std::alloc::Global;
+use terms::edges::Edge;
 
 impl Pairs {
     // An empty table for `limit` edges, 1 to 512; with any other number its limit is 0.

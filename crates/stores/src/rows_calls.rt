@@ -4,23 +4,23 @@ ghost use mathlib.Core.List.{[]};
 ghost use Prim.Native.Nat.{_<_};
 ghost use Rattle.std.specs.Of.Vec.{vec-items, vec-len};
 ghost use Rattle.std.specs.Vec.{made};
-ghost use Rattle.model.specs.Graph.{vault-edge};
+ghost use Rattle.terms.specs.Graph.{vault-edge};
 ghost use Rattle.model.specs.EdgeSets.{_∈_, _∉_, insert, delete};
 ghost use Rattle.model.specs.Cells as cells;
 ghost use Rattle.model.proofs.Tables.{table-of};
 ghost use Rattle.stores.specs.Putting.{store-limit, Sought};
 ghost use Rattle.stores.specs.Flags.{flagged};
 ghost use Rattle.stores.specs.Makes.{rows-edges};
-use crate::faults::StoreFault;
 use crate::rows::Rows;
 use crate::store::Reader;
 use crate::store::Store;
 use crate::store::allowed;
 use crate::words::read_bit;
 use crate::words::turn_bit;
-use model::edges::Edge;
+use faults::store::StoreFault;
 use std::alloc::AllocError;
 use std::alloc::Global;
+use terms::edges::Edge;
 
 // Words for 128 rows, all bits clear.
 fn blank(heap: Global) -> Result<Vec<u64>, AllocError>

@@ -3,8 +3,8 @@ ghost use Prim.Native.Nat.{ℕ, _≤_};
 ghost use lib.ListN.{length};
 ghost use Rattle.model.specs.EdgeSets.{Edges, Table, has, delete};
 ghost use Rattle.stores.specs.Putting.{put-answer, put, store-limit};
-use crate::faults::StoreFault;
-use model::edges::Edge;
+use faults::store::StoreFault;
+use terms::edges::Edge;
 
 // A reader means a set of at most 512 vault edges, and tells whether it holds one, and how many.
 pub trait Reader {

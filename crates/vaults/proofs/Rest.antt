@@ -9,8 +9,8 @@ use lib.ListN.{length}
 use Rattle.std.specs.declared.result.Result.{Result}
 use Rattle.std.specs.declared.result.Result.the-variants.{Err}
 use Rattle.std.proofs.shelf.Ways.{tells}
-use Rattle.vaults.specs.declared.faults.BankFault.{BankFault}
-use Rattle.vaults.specs.declared.faults.BankFault.the-variants.{NoVault}
+use Rattle.faults.specs.declared.bank.BankFault.{BankFault}
+use Rattle.faults.specs.declared.bank.BankFault.the-variants.{NoVault}
 use Rattle.vaults.specs.Sites.{Site, site-at, alter, asked}
 
 less-one : (v : ℕ) → suc v - 1 ≡ v

@@ -1,3 +1,2 @@
-pub mod Faults
 pub mod Sites
 pub mod Fitness

@@ -7,15 +7,15 @@ use lib.Dec.{ltb}
 use lib.ListN.{length, getD, set}
 use Rattle.std.specs.declared.result.Result.{Result}
 use Rattle.std.specs.declared.result.Result.the-variants.{Ok, Err}
-use Rattle.model.specs.declared.edges.Edge.{Edge}
-use Rattle.model.specs.declared.edges.Change.{Change}
+use Rattle.terms.specs.declared.edges.Edge.{Edge}
+use Rattle.terms.specs.declared.edges.Change.{Change}
 use Rattle.model.specs.EdgeSets.{Edges, Table, delete}
-use Rattle.links.specs.declared.faults.LinkFault.{LinkFault}
+use Rattle.faults.specs.declared.link.LinkFault.{LinkFault}
 use Rattle.links.specs.Waiting.{send-answer, sent, rest}
-use Rattle.stores.specs.declared.faults.StoreFault.{StoreFault}
+use Rattle.faults.specs.declared.store.StoreFault.{StoreFault}
 use Rattle.stores.specs.Putting.{put-answer, put}
-use Rattle.vaults.specs.declared.faults.BankFault.{BankFault}
-use Rattle.vaults.specs.declared.faults.BankFault.the-variants.{NoVault, Link, Store}
+use Rattle.faults.specs.declared.bank.BankFault.{BankFault}
+use Rattle.faults.specs.declared.bank.BankFault.the-variants.{NoVault, Link, Store}
 
 pub record Site : Type 0 where
   pub waiting : List Change

@@ -6,9 +6,9 @@ ghost use lib.ListN.{length};
 ghost use Rattle.model.specs.EdgeSets.{has};
 ghost use Rattle.links.specs.Waiting.{first};
 ghost use Rattle.vaults.specs.Sites.{Site, site-at, alter, send-to, strike-at, put-into, drop-from, asked, link-says, store-says, accepted, All-tables, All-bounded};
-use crate::faults::BankFault;
-use model::edges::Change;
-use model::edges::Edge;
+use faults::bank::BankFault;
+use terms::edges::Change;
+use terms::edges::Edge;
 
 // A bank numbers its vaults from 0; each has a link and a store of any make. It means the list of
 // its sites. A change of a vault that is not there is refused with 9 and alters nothing; a question

@@ -4,7 +4,7 @@ ghost use Rattle.std.specs.Results.{Cases};
 ghost use Rattle.vaults.specs.Sites.{site-at};
 ghost use Rattle.vaults.specs.Fitness.{Fit-site, Fit};
 use crate::bank::Bank;
-use crate::faults::BankFault;
+use faults::bank::BankFault;
 
 // Whether a vault is empty and has limits that one may have.
 fn is_fit<B: Bank>(bank: &B, vault: usize) -> bool

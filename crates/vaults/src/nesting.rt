@@ -1,15 +1,15 @@
 ghost use mathlib.Core.List.{[], _∷_};
 ghost use Rattle.vaults.specs.Sites.{Site};
 use crate::bank::Bank;
-use crate::faults::BankFault;
-use crate::faults::FromLinkFault;
-use crate::faults::FromStoreFault;
 use crate::vault::Vault;
+use faults::bank::BankFault;
+use faults::bank::FromLinkFault;
+use faults::bank::FromStoreFault;
 use links::link::Link;
-use model::edges::Change;
-use model::edges::Edge;
 use stores::store::Reader;
 use stores::store::Store;
+use terms::edges::Change;
+use terms::edges::Edge;
 
 // The bank without vaults.
 pub impl Bank for () as NoBank {

@@ -2,7 +2,8 @@ use Prim.Native.Nat.{ℕ, suc, _-_, _<_, _≤_}
 use mathlib.Core.Path.{_≡_}
 use mathlib.Core.Bool.{true, false}
 use lib.ListN.{length, getD}
-use Rattle.model.specs.EdgeSets.{before, no-edge}
+use Rattle.terms.specs.Graph.{before}
+use Rattle.model.specs.EdgeSets.{no-edge}
 use Rattle.model.proofs.places.lower.Given as given
 
 abbrev pub Inv-loop-low : given.InvT-loop-low

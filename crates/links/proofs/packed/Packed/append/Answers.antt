@@ -7,7 +7,7 @@ use lib.ListN.{length}
 use Rattle.std.specs.Of.Vec.{vec-items}
 use Rattle.std.specs.Changed.{refilled}
 use Rattle.std.proofs.shelf.Lists.{refilled-is}
-use Rattle.model.specs.declared.edges.Change.{Change}
+use Rattle.terms.specs.declared.edges.Change.{Change}
 use Rattle.links.specs.Queues.{place, waits}
 use Rattle.links.specs.Frames.{framed}
 use Rattle.links.specs.Makes.{packed-waiting}

@@ -5,7 +5,7 @@ use native.Mathlib.Omega.{arith}
 use lib.ListN.{length, set}
 use lib.Seq.{getD-set-same, getD-set-other}
 use Rattle.std.specs.Of.Vec.{vec-items}
-use Rattle.model.specs.declared.edges.Change.{Change}
+use Rattle.terms.specs.declared.edges.Change.{Change}
 use Rattle.links.specs.Queues.{place}
 use Rattle.links.specs.Makes.{slot, no-message, ring-waiting}
 use Rattle.links.proofs.Cycles.{waits-length}

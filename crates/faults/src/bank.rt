@@ -1,13 +1,17 @@
 ghost use mathlib.Core.Path.{_≡_};
-ghost use Rattle.vaults.specs.Faults.{bank-number, bank-layer};
-ghost use Rattle.vaults.specs.declared.faults.BankFault.the-variants.{Link as OfLink, Store as OfStore};
-use links::faults::LinkFault;
-use model::layers::Layer;
-use stores::faults::StoreFault;
+ghost use Rattle.faults.specs.Numbers.{bank-number, bank-layer};
+ghost use Rattle.faults.specs.declared.bank.BankFault.the-variants.{Link as OfLink, Store as OfStore};
+use crate::layers::Layer;
+use crate::link::LinkFault;
+use crate::link::LinkFaultDebug;
+use crate::link::LinkFaultPartialEq;
+use crate::store::StoreFault;
+use crate::store::StoreFaultDebug;
+use crate::store::StoreFaultPartialEq;
 
 // Why a bank refuses: there is no vault of that number, inspection turns it down, or the link or the
 // store of the vault refuses.
-#[derive(Clone, Copy)]
+#[derive(Clone, Copy, PartialEq, Eq, Debug)]
 pub enum BankFault {
     NoVault,
     Unfit,

@@ -1,10 +1,10 @@
 -- The policy graph: users, roles and privileges are its vertices, and which pairs of them are edges.
 use Prim.Native.Nat.{ℕ}
 use mathlib.Core.Bool.{Bool, _&&_, _||_}
-use lib.Dec.{ltb, leb}
-use Rattle.model.specs.declared.edges.Edge.{Edge}
-use Rattle.model.specs.declared.edges.Change.{Change}
-use Rattle.model.specs.declared.edges.Change.the-variants.{Add, Remove}
+use lib.Dec.{ltb, leb, eqb}
+use Rattle.terms.specs.declared.edges.Edge.{Edge}
+use Rattle.terms.specs.declared.edges.Change.{Change}
+use Rattle.terms.specs.declared.edges.Change.the-variants.{Add, Remove}
 
 -- Vertices by kind
 
@@ -30,6 +30,13 @@ abbrev pub is-edge : Edge → Bool
 is-edge e =
     (is-user (e .from) && is-role (e .to))
     || (is-role (e .from) && (is-role (e .to) || (is-user-privilege (e .to) || is-admin-privilege (e .to))))
+
+abbrev pub same : Edge → Edge → Bool
+same d e = eqb (d .from) (e .from) && eqb (d .to) (e .to)
+
+-- the order of edges: by from, then by to
+abbrev pub before : Edge → Edge → Bool
+before d e = ltb (d .from) (e .from) || (eqb (d .from) (e .from) && ltb (d .to) (e .to))
 
 -- an edge between vertices below 256: all that a vault ever hears of
 abbrev pub vault-edge : Edge → Bool

@@ -1,7 +1,7 @@
 ghost use mathlib.Core.Path.{_≡_};
-ghost use Rattle.stores.specs.Faults.{store-number};
-ghost use Rattle.model.specs.declared.layers.Layer.the-variants.{Store as InStore};
-use model::layers::Layer;
+ghost use Rattle.faults.specs.Numbers.{store-number};
+ghost use Rattle.faults.specs.declared.layers.Layer.the-variants.{Store as InStore};
+use crate::layers::Layer;
 
 // Why a store refuses a pair: it is no vault edge, or the table is at its limit.
 #[derive(Clone, Copy, PartialEq, Eq, Debug)]

@@ -1,6 +1,6 @@
 ghost use mathlib.Core.Path.{_≡_};
-ghost use Rattle.model.specs.Graph.{is-user, is-role, is-user-privilege, is-admin-privilege};
-ghost use Rattle.model.specs.Kinds.{kind-of};
+ghost use Rattle.terms.specs.Graph.{is-user, is-role, is-user-privilege, is-admin-privilege};
+ghost use Rattle.terms.specs.Kinds.{kind-of};
 
 // The kinds of vertices. A user privilege is the right to a record; an administrative privilege is
 // the right to add or to remove one edge.

@@ -1,7 +1,7 @@
 ghost use mathlib.Core.Path.{_≡_};
-ghost use Rattle.links.specs.Faults.{link-number};
-ghost use Rattle.model.specs.declared.layers.Layer.the-variants.{Link as InLink};
-use model::layers::Layer;
+ghost use Rattle.faults.specs.Numbers.{link-number};
+ghost use Rattle.faults.specs.declared.layers.Layer.the-variants.{Link as InLink};
+use crate::layers::Layer;
 
 // Why a link refuses a message: it is not about a vault edge, or as many wait as may.
 #[derive(Clone, Copy, PartialEq, Eq, Debug)]

@@ -1,10 +1,10 @@
 ghost use mathlib.Core.Path.{_≡_};
-ghost use Rattle.model.specs.Graph.{is-edge, vault-edge, edge-of};
-ghost use Rattle.model.specs.EdgeSets.{same, before};
+ghost use Rattle.terms.specs.Graph.{is-edge, vault-edge, edge-of, same, before};
 use crate::kinds::is_admin_privilege;
 use crate::kinds::is_role;
 use crate::kinds::is_user;
 use crate::kinds::is_user_privilege;
+use std::fmt;
 
 // Two vertices of the policy graph, the second reached from the first. Not every pair is an edge.
 #[derive(Clone, Copy, PartialEq, Eq, Debug)]
@@ -62,6 +62,25 @@ impl Change {
         match self {
             Change::Add(e) => *e,
             Change::Remove(e) => *e,
+        }
+    }
+}
+
+// An edge as its two numbers, `64 65`.
+pub impl fmt::Display for Edge as EdgeDisplay {
+    fn fmt<W: fmt::Write>(&self, f: &mut fmt::Formatter<W>) -> fmt::Result {
+        let from = self.from;
+        let to = self.to;
+        write!(f, "{from} {to}")
+    }
+}
+
+// A change as its sign and its edge, `+64 65`.
+pub impl fmt::Display for Change as ChangeDisplay {
+    fn fmt<W: fmt::Write>(&self, f: &mut fmt::Formatter<W>) -> fmt::Result {
+        match self {
+            Change::Add(e) => write!(f, "+{e}"),
+            Change::Remove(e) => write!(f, "-{e}"),
         }
     }
 }

@@ -3,9 +3,9 @@ use Prim.Native.Nat.{ℕ}
 use mathlib.Core.Bool.{cond}
 use Rattle.std.specs.declared.option.Option.{Option}
 use Rattle.std.specs.declared.option.Option.the-variants.{Some, None}
-use Rattle.model.specs.declared.kinds.Kind.{Kind}
-use Rattle.model.specs.declared.kinds.Kind.the-variants.{User, Role, UserPrivilege, AdminPrivilege}
-use Rattle.model.specs.Graph.{is-user, is-role, is-user-privilege, is-admin-privilege}
+use Rattle.terms.specs.declared.kinds.Kind.{Kind}
+use Rattle.terms.specs.declared.kinds.Kind.the-variants.{User, Role, UserPrivilege, AdminPrivilege}
+use Rattle.terms.specs.Graph.{is-user, is-role, is-user-privilege, is-admin-privilege}
 
 abbrev pub kind-of : ℕ → Option Kind
 kind-of v =

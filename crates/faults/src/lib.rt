@@ -1,0 +1,4 @@
+pub mod bank;
+pub mod layers;
+pub mod link;
+pub mod store;

@@ -1,0 +1,2 @@
+pub mod edges;
+pub mod kinds;
