@@ -1,0 +1,126 @@
+use crate::edges::pair;
+use faults::bank::BankFault;
+use faults::bank::BankFaultPartialEq;
+use faults::link::LinkFault;
+use faults::store::StoreFault;
+use links::packed::Packed;
+use links::packed_calls::PackedLink;
+use links::ring::Ring;
+use links::ring_calls::RingLink;
+use std::alloc::AllocError;
+use std::alloc::Global;
+use std::test::*;
+use stores::pairs::Pairs;
+use stores::pairs_calls::PairsReader;
+use stores::pairs_calls::PairsStore;
+use stores::rows::Rows;
+use stores::rows_calls::RowsReader;
+use stores::rows_calls::RowsStore;
+use terms::edges::Change;
+use vaults::bank::Bank;
+use vaults::inspection::inspect;
+use vaults::nesting::NestedBank;
+use vaults::nesting::NoBank;
+use vaults::vault::Vault;
+
+fn ringed(heap: Global, link: usize, store: usize) -> Result<Vault<Ring, Pairs>, AllocError> {
+    let link = Ring::new(heap, link)?;
+    let store = Pairs::new(heap, store)?;
+    Ok(Vault { link, store })
+}
+
+fn packed(heap: Global, link: usize, store: usize) -> Result<Vault<Packed, Rows>, AllocError> {
+    let link = Packed::new(heap, link)?;
+    let store = Rows::new(heap, store)?;
+    Ok(Vault { link, store })
+}
+
+// A change at one vault leaves the other as it was, and each fault holds that of the layer below.
+// The bank has link limits 2 and 3, store limits 1 and 2.
+fn keeps_apart<B: Bank>(bank: &mut B) -> bool {
+    let edge = pair(64, 65);
+    let mut ok = bank.send(0, Change::Add(edge)) == Ok(());
+    ok &= bank.send(0, Change::Remove(edge)) == Ok(());
+    ok &= bank.send(0, Change::Add(edge)) == Err(BankFault::Link(LinkFault::Full));
+    ok &= bank.waiting(0) == 2 && bank.waiting(1) == 0;
+    ok &= bank.put(1, edge) == Ok(());
+    ok &= bank.holds(1, edge) && !bank.holds(0, edge);
+    ok &= bank.put(0, edge) == Ok(());
+    ok && bank.put(0, pair(64, 66)) == Err(BankFault::Store(StoreFault::Full))
+}
+
+// What is asked of a vault that is not there.
+fn lacks_third<B: Bank>(bank: &mut B) -> bool {
+    let edge = pair(64, 65);
+    let mut ok = bank.drop(2, edge) == Err(BankFault::NoVault);
+    ok &= bank.strike(18446744073709551615) == Err(BankFault::NoVault);
+    ok && bank.link_limit(1) == 3 && bank.store_limit(2) == 0 && bank.held(0) == 1
+}
+
+#[test]
+fn by_number(rt: LibcRuntime) -> Result<(), Fail> {
+    let heap = rt.alloc();
+    let first = ringed(heap, 2, 1)?;
+    let second = packed(heap, 3, 2)?;
+    let mut bank = (first, (second, ()));
+    check(keeps_apart(&mut bank))?;
+    check(lacks_third(&mut bank))
+}
+
+fn is_fit<B: Bank>(bank: &B) -> bool {
+    inspect(bank) == Ok(())
+}
+
+// Whether a bank of one vault is fit.
+fn one_ringed(heap: Global, link: usize, store: usize) -> Result<bool, AllocError> {
+    let bank = (ringed(heap, link, store)?, ());
+    Ok(is_fit(&bank))
+}
+
+fn one_packed(heap: Global, link: usize, store: usize) -> Result<bool, AllocError> {
+    let bank = (packed(heap, link, store)?, ());
+    Ok(is_fit(&bank))
+}
+
+// Whether a bank is still fit where its vault holds an edge.
+fn one_used(heap: Global) -> Result<bool, AllocError> {
+    let mut bank = (ringed(heap, 2, 1)?, ());
+    let _ = bank.put(0, pair(0, 64));
+    Ok(is_fit(&bank))
+}
+
+#[test]
+fn inspected(rt: LibcRuntime) -> Result<(), Fail> {
+    let heap = rt.alloc();
+    check(!is_fit(&()))?;
+    check(one_ringed(heap, 2, 1)?)?;
+    check(one_packed(heap, 1024, 512)?)?;
+    check(!one_ringed(heap, 1, 1)?)?;
+    check(!one_packed(heap, 2, 513)?)?;
+    check(!one_used(heap)?)
+}
+
+// Two vaults more than six are fit, and three are not.
+fn over_six<B: Bank + Drop>(heap: Global, six: B) -> Result<bool, AllocError> {
+    let seven = (ringed(heap, 2, 1)?, six);
+    let eight = (packed(heap, 2, 1)?, seven);
+    let fit = is_fit(&eight) && eight.has(7) && !eight.has(8);
+    let nine = (ringed(heap, 2, 1)?, eight);
+    Ok(fit && !is_fit(&nine))
+}
+
+fn over_three<B: Bank + Drop>(heap: Global, three: B) -> Result<bool, AllocError> {
+    let four = (ringed(heap, 2, 1)?, three);
+    let five = (packed(heap, 2, 1)?, four);
+    let six = (packed(heap, 2, 1)?, five);
+    over_six(heap, six)
+}
+
+#[test]
+fn eight(rt: LibcRuntime) -> Result<(), Fail> {
+    let heap = rt.alloc();
+    let one = (ringed(heap, 2, 1)?, ());
+    let two = (packed(heap, 2, 1)?, one);
+    let three = (ringed(heap, 2, 1)?, two);
+    check(over_three(heap, three)?)
+}
