@@ -13,7 +13,7 @@ use Rattle.terms.specs.declared.edges.Change.{Change}
 use Rattle.links.specs.declared.cycle.Cycle.{Cycle}
 use Rattle.links.specs.Waiting.{rest}
 use Rattle.links.specs.Queues.{place, queue, waits, Else}
-use Rattle.links.proofs.Places.{queue-more, queue-rest}
+use Rattle.links.proofs.Rings.{queue-more, queue-rest}
 
 pub waits-length : (f : ℕ → Change) (c : Cycle) → length (waits f c) ≡ c .count
 unfolding waits

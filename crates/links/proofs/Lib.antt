@@ -1,3 +1,3 @@
-mod Places
+mod Rings
 mod Cycles
 mod Strips

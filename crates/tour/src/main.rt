@@ -1,10 +1,11 @@
 // A walk through links, stores and banks: messages travel over two makes of link into two makes of
 // store, and every answer is shown.
 use faults::bank::BankFault;
-use links::packed::Packed;
-use links::packed_calls::PackedLink;
-use links::ring::Ring;
-use links::ring_calls::RingLink;
+use links::makes::packed;
+use links::makes::ring;
+use links::queue::QueueLink;
+use links::slots_calls::SlotsMemory;
+use links::strip_calls::StripMemory;
 use std::error::AnyError;
 use std::io;
 use stores::pairs::Pairs;
@@ -149,21 +150,15 @@ fn refusals<B: Bank>(rt: &LibcRuntime, bank: &mut B) -> io::Result<()> {
 
 fn walk(rt: &LibcRuntime) -> Result<(), AnyError> {
     let heap = rt.alloc();
-    let ring = Ring::new(heap, 1024)?;
-    let rows = Rows::new(heap, 512)?;
-    let packed = Packed::new(heap, 1024)?;
-    let pairs = Pairs::new(heap, 512)?;
-    let second = Vault {
-        link: packed,
-        store: pairs,
+    let first = Vault {
+        link: ring(heap, 1024)?,
+        store: Rows::new(heap, 512)?,
     };
-    let mut bank = (
-        Vault {
-            link: ring,
-            store: rows,
-        },
-        (second, ()),
-    );
+    let second = Vault {
+        link: packed(heap, 1024)?,
+        store: Pairs::new(heap, 512)?,
+    };
+    let mut bank = (first, (second, ()));
     println!(
         rt,
         "Vault 0: a ring of records and rows of bits. Vault 1: a packed strip and ascending pairs."
@@ -172,15 +167,11 @@ fn walk(rt: &LibcRuntime) -> Result<(), AnyError> {
     println!(rt, "inspect answers {fit}")?;
     additions(rt, &mut bank)?;
     withdrawal(rt, &mut bank)?;
-    let ring = Ring::new(heap, 2)?;
-    let pairs = Pairs::new(heap, 1)?;
-    let mut small = (
-        Vault {
-            link: ring,
-            store: pairs,
-        },
-        (),
-    );
+    let only = Vault {
+        link: ring(heap, 2)?,
+        store: Pairs::new(heap, 1)?,
+    };
+    let mut small = (only, ());
     refusals(rt, &mut small)?;
     Ok(())
 }

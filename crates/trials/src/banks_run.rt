@@ -3,10 +3,13 @@ use faults::bank::BankFault;
 use faults::bank::BankFaultPartialEq;
 use faults::link::LinkFault;
 use faults::store::StoreFault;
-use links::packed::Packed;
-use links::packed_calls::PackedLink;
-use links::ring::Ring;
-use links::ring_calls::RingLink;
+use links::makes;
+use links::queue::Queue;
+use links::queue::QueueLink;
+use links::slots::Slots;
+use links::slots_calls::SlotsMemory;
+use links::strip::Strip;
+use links::strip_calls::StripMemory;
 use std::alloc::AllocError;
 use std::alloc::Global;
 use std::test::*;
@@ -23,14 +26,22 @@ use vaults::nesting::NestedBank;
 use vaults::nesting::NoBank;
 use vaults::vault::Vault;
 
-fn ringed(heap: Global, link: usize, store: usize) -> Result<Vault<Ring, Pairs>, AllocError> {
-    let link = Ring::new(heap, link)?;
+fn ringed(
+    heap: Global,
+    link: usize,
+    store: usize,
+) -> Result<Vault<Queue<Slots>, Pairs>, AllocError> {
+    let link = makes::ring(heap, link)?;
     let store = Pairs::new(heap, store)?;
     Ok(Vault { link, store })
 }
 
-fn packed(heap: Global, link: usize, store: usize) -> Result<Vault<Packed, Rows>, AllocError> {
-    let link = Packed::new(heap, link)?;
+fn packed(
+    heap: Global,
+    link: usize,
+    store: usize,
+) -> Result<Vault<Queue<Strip>, Rows>, AllocError> {
+    let link = makes::packed(heap, link)?;
     let store = Rows::new(heap, store)?;
     Ok(Vault { link, store })
 }

@@ -1,12 +1,19 @@
+ghost use Prim.Native.Nat.{_+_, _/_, _%_};
+ghost use mathlib.Core.Path.{_≡_};
+ghost use Rattle.terms.specs.Graph.{edge};
 use std::test::*;
 use terms::edges::Edge;
 
-pub fn pair(from: u16, to: u16) -> Edge {
+pub fn pair(from: u16, to: u16) -> Edge
+    ensures { λ r. ⌜ r ≡ edge from to ⌝ }
+{
     Edge { from, to }
 }
 
 // The i-th of 4096 edges between roles; numbers above go round.
-pub fn nth_edge(i: u16) -> Edge {
+pub fn nth_edge(i: u16) -> Edge
+    ensures { λ r. ⌜ r ≡ edge (64 + i / 64 % 64) (64 + i % 64) ⌝ }
+{
     pair(64 + i / 64 % 64, 64 + i % 64)
 }
 

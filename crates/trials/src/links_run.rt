@@ -3,10 +3,11 @@ use crate::edges::pair;
 use faults::link::LinkFault;
 use faults::link::LinkFaultPartialEq;
 use links::link::Link;
-use links::packed::Packed;
-use links::packed_calls::PackedLink;
-use links::ring::Ring;
-use links::ring_calls::RingLink;
+use links::makes::packed;
+use links::makes::ring;
+use links::queue::QueueLink;
+use links::slots_calls::SlotsMemory;
+use links::strip_calls::StripMemory;
 use std::test::*;
 use terms::edges::Change;
 use terms::edges::ChangePartialEq;
@@ -67,12 +68,12 @@ fn refuses<L: Link>(link: &mut L) -> bool {
 #[test]
 fn rings(rt: LibcRuntime) -> Result<(), Fail> {
     let heap = rt.alloc();
-    check(fills(&mut Ring::new(heap, 2)?, 2))?;
-    check(fills(&mut Ring::new(heap, 1024)?, 1024))?;
-    check(goes_round(&mut Ring::new(heap, 3)?))?;
-    check(refuses(&mut Ring::new(heap, 2)?))?;
+    check(fills(&mut ring(heap, 2)?, 2))?;
+    check(fills(&mut ring(heap, 1024)?, 1024))?;
+    check(goes_round(&mut ring(heap, 3)?))?;
+    check(refuses(&mut ring(heap, 2)?))?;
     for wrong in [0usize, 1, 1025, 18446744073709551615] {
-        check_eq(Ring::new(heap, wrong)?.limit(), 0)?;
+        check_eq(ring(heap, wrong)?.limit(), 0)?;
     }
     Ok(())
 }
@@ -80,12 +81,12 @@ fn rings(rt: LibcRuntime) -> Result<(), Fail> {
 #[test]
 fn strips(rt: LibcRuntime) -> Result<(), Fail> {
     let heap = rt.alloc();
-    check(fills(&mut Packed::new(heap, 2)?, 2))?;
-    check(fills(&mut Packed::new(heap, 1024)?, 1024))?;
-    check(goes_round(&mut Packed::new(heap, 3)?))?;
-    check(refuses(&mut Packed::new(heap, 2)?))?;
+    check(fills(&mut packed(heap, 2)?, 2))?;
+    check(fills(&mut packed(heap, 1024)?, 1024))?;
+    check(goes_round(&mut packed(heap, 3)?))?;
+    check(refuses(&mut packed(heap, 2)?))?;
     for wrong in [0usize, 1, 1025, 18446744073709551615] {
-        check_eq(Packed::new(heap, wrong)?.limit(), 0)?;
+        check_eq(packed(heap, wrong)?.limit(), 0)?;
     }
     Ok(())
 }
