@@ -11,19 +11,24 @@ use crate::strip::Strip;
 use crate::strip_calls::StripMemory;
 use std::alloc::AllocError;
 use std::alloc::Global;
+use terms::edges::Change;
+use terms::edges::Edge;
+
+// What lies in a slot that was never written to.
+const UNUSED: Change = Change::Add(Edge { from: 0, to: 0 });
 
 // An empty ring of records for `limit` messages, 2 to 1024; with any other number its limit is 0.
 pub fn ring(heap: Global, limit: usize) -> Result<Queue<Slots>, AllocError>
     ensures { λ r. ⌜ made r (λ q. (waits (slots-at (q .memory)) (q .cycle) ≡ []) × (q .cycle .limit ≡ link-limit limit)) ⌝ }
 {
-    let memory = Slots::new(heap)?;
-    Ok(Queue::new(memory, limit))
+    let slots = vec![in heap; UNUSED; 1024]?;
+    Ok(Queue::new(Slots { slots }, limit))
 }
 
 // An empty packed link for `limit` messages, 2 to 1024; with any other number its limit is 0.
 pub fn packed(heap: Global, limit: usize) -> Result<Queue<Strip>, AllocError>
     ensures { λ r. ⌜ made r (λ q. (waits (strip-at (q .memory)) (q .cycle) ≡ []) × (q .cycle .limit ≡ link-limit limit)) ⌝ }
 {
-    let memory = Strip::new(heap)?;
-    Ok(Queue::new(memory, limit))
+    let strip = vec![in heap; 0; 3072]?;
+    Ok(Queue::new(Strip { strip }, limit))
 }

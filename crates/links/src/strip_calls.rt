@@ -7,16 +7,9 @@ use crate::frames::read_frame;
 use crate::frames::write_frame;
 use crate::memory::Memory;
 use crate::strip::Strip;
-use std::alloc::AllocError;
-use std::alloc::Global;
 use terms::edges::Change;
 
 impl Strip {
-    pub(crate) fn new(heap: Global) -> Result<Strip, AllocError> {
-        let strip = vec![in heap; 0; 3072]?;
-        Ok(Strip { strip })
-    }
-
     fn frame(&self, place: usize) -> Change
         requires { ⌜ place < 1024 ⌝ }
         ensures { λ r. ⌜ r ≡ strip-at (now (self .entry)) place ⌝ }

@@ -6,7 +6,7 @@ use Prim.Native.Nat.{ℕ, zero, suc, _/_, _%_, _^_, _<_}
 use native.Mathlib.Nat.{zero-div}
 use native.Mathlib.Omega.{arith}
 use lib.Dec.{eqb}
-use lib.ListN.{getD, replicate}
+use lib.ListN.{length, getD, replicate}
 use Rattle.std.proofs.shelf.Tests.{cases-bool, both-ways}
 use mathlib.Core.Logic.{⊎-elim}
 use Rattle.terms.specs.declared.edges.Edge.{Edge}
@@ -17,7 +17,7 @@ use Rattle.model.proofs.Cells.{cell-within, cell-edge, listed-ascends, has-list
 use Rattle.model.proofs.Members.{vault-member}
 use Rattle.stores.specs.Flags.{bit-at, flagged}
 
-pub flagged-ascends : (ws : List ℕ) → Ascending (flagged ws)
+flagged-ascends : (ws : List ℕ) → Ascending (flagged ws)
 unfolding flagged
 flagged-ascends ws = listed-ascends (bit-at ws) 0 32768
 
@@ -73,3 +73,7 @@ unfolding flagged
 no-flags ws n e =
     listed-none (bit-at ws) 0 32768
     (λ j. ap (λ (us : List ℕ). bit-at us j) e ∙ ap (λ (w : ℕ). eqb (w / 2 ^ (j % 64) % 2) 1) (zeros n (j / 64)) ∙ ap (λ (w : ℕ). eqb (w % 2) 1) (zero-div (2 ^ (j % 64))))
+
+-- what rows know of a set once it is what their bits stand for
+pub flags-are : (ws : List ℕ) (s : Edges) → flagged ws ≡ s → all-vault s ≡ true → Ascending (flagged ws) × (all-vault (flagged ws) ≡ true) × (length (flagged ws) ≡ length s)
+flags-are ws s is vault = (flagged-ascends ws, subst (λ (t : Edges). all-vault t ≡ true) (sym is) vault, ap length is)
