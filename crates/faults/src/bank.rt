@@ -3,15 +3,13 @@ ghost use Rattle.faults.specs.Numbers.{bank-number, bank-layer};
 ghost use Rattle.faults.specs.declared.bank.BankFault.the-variants.{Link as OfLink, Store as OfStore};
 use crate::layers::Layer;
 use crate::link::LinkFault;
-use crate::link::LinkFaultDebug;
 use crate::link::LinkFaultPartialEq;
 use crate::store::StoreFault;
-use crate::store::StoreFaultDebug;
 use crate::store::StoreFaultPartialEq;
 
 // Why a bank refuses: there is no vault of that number, inspection turns it down, or the link or the
 // store of the vault refuses.
-#[derive(Clone, Copy, PartialEq, Eq, Debug)]
+#[derive(Clone, Copy, PartialEq, Eq)]
 pub enum BankFault {
     NoVault,
     Unfit,

@@ -4,7 +4,7 @@ ghost use Rattle.faults.specs.declared.layers.Layer.the-variants.{Link as InLi
 use crate::layers::Layer;
 
 // Why a link refuses a message: it is not about a vault edge, or as many wait as may.
-#[derive(Clone, Copy, PartialEq, Eq, Debug)]
+#[derive(Clone, Copy, PartialEq, Eq)]
 pub enum LinkFault {
     NoVaultEdge,
     Full,

@@ -4,7 +4,7 @@ ghost use Rattle.faults.specs.declared.layers.Layer.the-variants.{Store as InS
 use crate::layers::Layer;
 
 // Why a store refuses a pair: it is no vault edge, or the table is at its limit.
-#[derive(Clone, Copy, PartialEq, Eq, Debug)]
+#[derive(Clone, Copy, PartialEq, Eq)]
 pub enum StoreFault {
     NoVaultEdge,
     Full,

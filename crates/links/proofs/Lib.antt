@@ -1,3 +1,2 @@
 mod Rings
 mod Cycles
-mod Strips

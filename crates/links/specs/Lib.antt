@@ -1,4 +1,4 @@
 pub mod Waiting
-pub mod Queues
-pub mod Frames
 pub mod Places
+pub mod Queues
+pub mod Held

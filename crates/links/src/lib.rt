@@ -1,11 +1,5 @@
 mod cycle;
 mod cycle_calls;
-mod frames;
 pub mod link;
-pub mod makes;
 pub mod memory;
 pub mod queue;
-pub mod slots;
-pub mod slots_calls;
-pub mod strip;
-pub mod strip_calls;

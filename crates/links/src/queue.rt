@@ -6,7 +6,7 @@ ghost use lib.ListN.{length};
 ghost use Rattle.std.specs.Finite.{nth};
 ghost use Rattle.terms.specs.Graph.{edge-of, vault-edge};
 ghost use Rattle.links.specs.Waiting.{link-limit};
-ghost use Rattle.links.specs.Queues.{waits};
+ghost use Rattle.links.specs.Held.{held, most};
 use crate::cycle::Cycle;
 use crate::link::Link;
 use crate::link::admit;
@@ -24,8 +24,8 @@ pub struct Queue<M> {
 impl<M: Memory> Queue<M> {
     // An empty link for `limit` messages, 2 to 1024; with any other number its limit is 0.
     pub fn new(memory: M, limit: usize) -> Queue<M>
-        ensures waiting { λ r. ⌜ waits (M·Memory .at (r .memory)) (r .cycle) ≡ [] ⌝ }
-        ensures limit { λ r. ⌜ r .cycle .limit ≡ link-limit limit ⌝ }
+        ensures waiting { λ r. ⌜ held (M·Memory .at) r ≡ [] ⌝ }
+        ensures limit { λ r. ⌜ most r ≡ link-limit limit ⌝ }
     {
         Queue {
             memory,
@@ -35,10 +35,10 @@ impl<M: Memory> Queue<M> {
 
     // Puts a message behind all that wait.
     fn append(&mut self, message: Change)
-        requires room { ⌜ length (waits (M·Memory .at (now self .memory)) (now self .cycle)) < now self .cycle .limit ⌝ }
+        requires room { ⌜ length (held (M·Memory .at) (now self)) < most (now self) ⌝ }
         requires vault { ⌜ vault-edge (edge-of message) ≡ true ⌝ }
-        ensures list { λ _. ⌜ waits (M·Memory .at (now (self .exit) .memory)) (now (self .exit) .cycle) ≡ waits (M·Memory .at (now (self .entry) .memory)) (now (self .entry) .cycle) ++ (message ∷ []) ⌝ }
-        ensures limit { λ _. ⌜ now (self .exit) .cycle .limit ≡ now (self .entry) .cycle .limit ⌝ }
+        ensures list { λ _. ⌜ held (M·Memory .at) (now (self .exit)) ≡ held (M·Memory .at) (now (self .entry)) ++ (message ∷ []) ⌝ }
+        ensures limit { λ _. ⌜ most (now (self .exit)) ≡ most (now (self .entry)) ⌝ }
     {
         let at = self.cycle.place(self.cycle.count);
         self.memory.write(at, message);
@@ -47,7 +47,7 @@ impl<M: Memory> Queue<M> {
 
     // The message that has k others before it, or none.
     fn message(&self, k: usize) -> Option<Change>
-        ensures { λ r. ⌜ r ≡ nth (waits (M·Memory .at (now (self .entry) .memory)) (now (self .entry) .cycle)) k ⌝ }
+        ensures { λ r. ⌜ r ≡ nth (held (M·Memory .at) (now (self .entry))) k ⌝ }
     {
         if k >= self.cycle.count {
             return None;
@@ -57,9 +57,9 @@ impl<M: Memory> Queue<M> {
 }
 
 pub impl<M: Memory> Link for Queue<M> as QueueLink {
-    ghost waiting = { λ q. waits (M·Memory .at (q .memory)) (q .cycle) };
+    ghost waiting = { held (M·Memory .at) };
 
-    ghost limit = { λ q. q .cycle .limit };
+    ghost limit = { most };
 
     fn send(&mut self, message: Change) -> Result<(), LinkFault> {
         admit(self.limit(), self.count(), message)?;

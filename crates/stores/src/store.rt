@@ -44,7 +44,7 @@ pub trait Store: Reader {
 }
 
 // The limit of a store that is made with `wanted`.
-pub(crate) fn allowed(wanted: usize) -> usize
+pub fn allowed(wanted: usize) -> usize
     ensures value { λ r. ⌜ r ≡ store-limit wanted ⌝ }
     ensures bound { λ r. ⌜ r ≤ 512 ⌝ }
 {

@@ -4,10 +4,9 @@ use crate::kinds::is_admin_privilege;
 use crate::kinds::is_role;
 use crate::kinds::is_user;
 use crate::kinds::is_user_privilege;
-use std::fmt;
 
 // Two vertices of the policy graph, the second reached from the first. Not every pair is an edge.
-#[derive(Clone, Copy, PartialEq, Eq, Debug)]
+#[derive(Clone, Copy, PartialEq, Eq)]
 pub struct Edge {
     pub from: u16,
     pub to: u16,
@@ -15,7 +14,7 @@ pub struct Edge {
 
 // An edge to be added or to be removed. It is what a command asks for, what an administrative
 // privilege allows, and the message that a vault is sent.
-#[derive(Clone, Copy, PartialEq, Eq, Debug)]
+#[derive(Clone, Copy, PartialEq, Eq)]
 pub enum Change {
     Add(Edge),
     Remove(Edge),
@@ -62,25 +61,6 @@ impl Change {
         match self {
             Change::Add(e) => *e,
             Change::Remove(e) => *e,
-        }
-    }
-}
-
-// An edge as its two numbers, `64 65`.
-pub impl fmt::Display for Edge as EdgeDisplay {
-    fn fmt<W: fmt::Write>(&self, f: &mut fmt::Formatter<W>) -> fmt::Result {
-        let from = self.from;
-        let to = self.to;
-        write!(f, "{from} {to}")
-    }
-}
-
-// A change as its sign and its edge, `+64 65`.
-pub impl fmt::Display for Change as ChangeDisplay {
-    fn fmt<W: fmt::Write>(&self, f: &mut fmt::Formatter<W>) -> fmt::Result {
-        match self {
-            Change::Add(e) => write!(f, "+{e}"),
-            Change::Remove(e) => write!(f, "-{e}"),
         }
     }
 }

@@ -4,7 +4,7 @@ ghost use Rattle.terms.specs.Kinds.{kind-of};
 
 // The kinds of vertices. A user privilege is the right to a record; an administrative privilege is
 // the right to add or to remove one edge.
-#[derive(Clone, Copy, PartialEq, Eq, Debug)]
+#[derive(Clone, Copy, PartialEq, Eq)]
 pub enum Kind {
     User,
     Role,

@@ -1,23 +1,26 @@
 // A walk through links, stores and banks: messages travel over two makes of link into two makes of
 // store, and every answer is shown.
 use faults::bank::BankFault;
-use links::makes::packed;
-use links::makes::ring;
+use links::queue::Queue;
 use links::queue::QueueLink;
-use links::slots_calls::SlotsMemory;
-use links::strip_calls::StripMemory;
+use memories::makes::packed;
+use memories::makes::ring;
+use memories::slots::Slots;
+use memories::slots_calls::SlotsMemory;
+use memories::strip::Strip;
+use memories::strip_calls::StripMemory;
+use pairs::calls::PairsReader;
+use pairs::calls::PairsStore;
+use pairs::pairs::Pairs;
+use rows::calls::RowsReader;
+use rows::calls::RowsStore;
+use rows::rows::Rows;
+use std::alloc::AllocError;
+use std::alloc::Global;
 use std::error::AnyError;
 use std::io;
-use stores::pairs::Pairs;
-use stores::pairs_calls::PairsReader;
-use stores::pairs_calls::PairsStore;
-use stores::rows::Rows;
-use stores::rows_calls::RowsReader;
-use stores::rows_calls::RowsStore;
 use terms::edges::Change;
-use terms::edges::ChangeDisplay;
 use terms::edges::Edge;
-use terms::edges::EdgeDisplay;
 use vaults::bank::Bank;
 use vaults::inspection::inspect;
 use vaults::nesting::NestedBank;
@@ -49,31 +52,50 @@ fn deliver<B: Bank>(bank: &mut B, vault: usize) -> Result<(), BankFault> {
     bank.strike(vault)
 }
 
-fn show_waiting<B: Bank>(rt: &LibcRuntime, bank: &B, vault: usize) -> io::Result<()> {
-    let waiting = bank.waiting(vault);
-    match bank.head(vault) {
-        Some(first) => println!(rt, "{waiting} waiting, first {first}"),
-        None => println!(rt, "none waiting"),
+fn show_edge(rt: &LibcRuntime, edge: Edge) -> io::Result<()> {
+    let from = edge.from;
+    let to = edge.to;
+    print!(rt, "{from} {to}")
+}
+
+fn show_change(rt: &LibcRuntime, change: Change) -> io::Result<()> {
+    match change {
+        Change::Add(_) => print!(rt, "+")?,
+        Change::Remove(_) => print!(rt, "-")?,
     }
+    show_edge(rt, change.edge())
+}
+
+fn show_waiting<B: Bank>(rt: &LibcRuntime, bank: &B, vault: usize) -> io::Result<()> {
+    let waiting = bank.load(vault).waiting;
+    print!(rt, "{waiting} waiting")?;
+    if let Some(first) = bank.head(vault) {
+        print!(rt, ", first ")?;
+        show_change(rt, first)?;
+    }
+    println!(rt, "")
 }
 
 fn show_table<B: Bank>(rt: &LibcRuntime, bank: &B, vault: usize) -> io::Result<()> {
-    print!(rt, "    table of vault {vault}:")?;
+    print!(rt, "    table of vault {vault}: ")?;
     for from in 0u16..128 {
         for to in 64u16..256 {
             let edge = Edge { from, to };
             if bank.holds(vault, edge) {
-                print!(rt, " {edge},")?;
+                show_edge(rt, edge)?;
+                print!(rt, ", ")?;
             }
         }
     }
-    let held = bank.held(vault);
-    println!(rt, " {held} in all")
+    let held = bank.load(vault).held;
+    println!(rt, "{held} in all")
 }
 
 fn send<B: Bank>(rt: &LibcRuntime, bank: &mut B, vault: usize, message: Change) -> io::Result<()> {
     let answer = number(bank.send(vault, message));
-    print!(rt, "vault {vault}: send {message} answers {answer}; ")?;
+    print!(rt, "vault {vault}: send ")?;
+    show_change(rt, message)?;
+    print!(rt, " answers {answer}; ")?;
     show_waiting(rt, bank, vault)
 }
 
@@ -86,7 +108,9 @@ fn deliver_one<B: Bank>(rt: &LibcRuntime, bank: &mut B, vault: usize) -> io::Res
 
 fn put<B: Bank>(rt: &LibcRuntime, bank: &mut B, vault: usize, edge: Edge) -> io::Result<()> {
     let answer = number(bank.put(vault, edge));
-    println!(rt, "vault {vault}: put {edge} answers {answer}")?;
+    print!(rt, "vault {vault}: put ")?;
+    show_edge(rt, edge)?;
+    println!(rt, " answers {answer}")?;
     show_table(rt, bank, vault)
 }
 
@@ -148,31 +172,42 @@ fn refusals<B: Bank>(rt: &LibcRuntime, bank: &mut B) -> io::Result<()> {
     send(rt, bank, 1, Change::Add(CHAIN))
 }
 
-fn walk(rt: &LibcRuntime) -> Result<(), AnyError> {
-    let heap = rt.alloc();
-    let first = Vault {
-        link: ring(heap, 1024)?,
-        store: Rows::new(heap, 512)?,
-    };
-    let second = Vault {
-        link: packed(heap, 1024)?,
-        store: Pairs::new(heap, 512)?,
-    };
-    let mut bank = (first, (second, ()));
+fn ringed(heap: Global) -> Result<Vault<Queue<Slots>, Rows>, AllocError> {
+    let link = ring(heap, 1024)?;
+    let store = Rows::new(heap, 512)?;
+    Ok(Vault { link, store })
+}
+
+fn stripped(heap: Global) -> Result<Vault<Queue<Strip>, Pairs>, AllocError> {
+    let link = packed(heap, 1024)?;
+    let store = Pairs::new(heap, 512)?;
+    Ok(Vault { link, store })
+}
+
+fn tight(heap: Global) -> Result<Vault<Queue<Slots>, Pairs>, AllocError> {
+    let link = ring(heap, 2)?;
+    let store = Pairs::new(heap, 1)?;
+    Ok(Vault { link, store })
+}
+
+// Both stories over a bank of two vaults.
+fn carry<B: Bank>(rt: &LibcRuntime, bank: &mut B) -> io::Result<()> {
     println!(
         rt,
         "Vault 0: a ring of records and rows of bits. Vault 1: a packed strip and ascending pairs."
     )?;
-    let fit = number(inspect(&bank));
+    let fit = number(inspect(bank));
     println!(rt, "inspect answers {fit}")?;
-    additions(rt, &mut bank)?;
-    withdrawal(rt, &mut bank)?;
-    let only = Vault {
-        link: ring(heap, 2)?,
-        store: Pairs::new(heap, 1)?,
-    };
-    let mut small = (only, ());
-    refusals(rt, &mut small)?;
+    additions(rt, bank)?;
+    withdrawal(rt, bank)
+}
+
+fn walk(rt: &LibcRuntime) -> Result<(), AnyError> {
+    let first = ringed(rt.alloc())?;
+    let second = stripped(rt.alloc())?;
+    carry(rt, &mut (first, (second, ())))?;
+    let only = tight(rt.alloc())?;
+    refusals(rt, &mut (only, ()))?;
     Ok(())
 }
 

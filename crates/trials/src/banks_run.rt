@@ -3,22 +3,22 @@ use faults::bank::BankFault;
 use faults::bank::BankFaultPartialEq;
 use faults::link::LinkFault;
 use faults::store::StoreFault;
-use links::makes;
 use links::queue::Queue;
 use links::queue::QueueLink;
-use links::slots::Slots;
-use links::slots_calls::SlotsMemory;
-use links::strip::Strip;
-use links::strip_calls::StripMemory;
+use memories::makes;
+use memories::slots::Slots;
+use memories::slots_calls::SlotsMemory;
+use memories::strip::Strip;
+use memories::strip_calls::StripMemory;
+use pairs::calls::PairsReader;
+use pairs::calls::PairsStore;
+use pairs::pairs::Pairs;
+use rows::calls::RowsReader;
+use rows::calls::RowsStore;
+use rows::rows::Rows;
 use std::alloc::AllocError;
 use std::alloc::Global;
 use std::test::*;
-use stores::pairs::Pairs;
-use stores::pairs_calls::PairsReader;
-use stores::pairs_calls::PairsStore;
-use stores::rows::Rows;
-use stores::rows_calls::RowsReader;
-use stores::rows_calls::RowsStore;
 use terms::edges::Change;
 use vaults::bank::Bank;
 use vaults::inspection::inspect;
@@ -53,7 +53,7 @@ fn keeps_apart<B: Bank>(bank: &mut B) -> bool {
     let mut ok = bank.send(0, Change::Add(edge)) == Ok(());
     ok &= bank.send(0, Change::Remove(edge)) == Ok(());
     ok &= bank.send(0, Change::Add(edge)) == Err(BankFault::Link(LinkFault::Full));
-    ok &= bank.waiting(0) == 2 && bank.waiting(1) == 0;
+    ok &= bank.load(0).waiting == 2 && bank.load(1).waiting == 0;
     ok &= bank.put(1, edge) == Ok(());
     ok &= bank.holds(1, edge) && !bank.holds(0, edge);
     ok &= bank.put(0, edge) == Ok(());
@@ -65,7 +65,7 @@ fn lacks_third<B: Bank>(bank: &mut B) -> bool {
     let edge = pair(64, 65);
     let mut ok = bank.drop(2, edge) == Err(BankFault::NoVault);
     ok &= bank.strike(18446744073709551615) == Err(BankFault::NoVault);
-    ok && bank.link_limit(1) == 3 && bank.store_limit(2) == 0 && bank.held(0) == 1
+    ok && bank.load(1).link_limit == 3 && bank.load(2).store_limit == 0 && bank.load(0).held == 1
 }
 
 #[test]
@@ -109,29 +109,4 @@ fn inspected(rt: LibcRuntime) -> Result<(), Fail> {
     check(!one_ringed(heap, 1, 1)?)?;
     check(!one_packed(heap, 2, 513)?)?;
     check(!one_used(heap)?)
-}
-
-// Two vaults more than six are fit, and three are not.
-fn over_six<B: Bank + Drop>(heap: Global, six: B) -> Result<bool, AllocError> {
-    let seven = (ringed(heap, 2, 1)?, six);
-    let eight = (packed(heap, 2, 1)?, seven);
-    let fit = is_fit(&eight) && eight.has(7) && !eight.has(8);
-    let nine = (ringed(heap, 2, 1)?, eight);
-    Ok(fit && !is_fit(&nine))
-}
-
-fn over_three<B: Bank + Drop>(heap: Global, three: B) -> Result<bool, AllocError> {
-    let four = (ringed(heap, 2, 1)?, three);
-    let five = (packed(heap, 2, 1)?, four);
-    let six = (packed(heap, 2, 1)?, five);
-    over_six(heap, six)
-}
-
-#[test]
-fn eight(rt: LibcRuntime) -> Result<(), Fail> {
-    let heap = rt.alloc();
-    let one = (ringed(heap, 2, 1)?, ());
-    let two = (packed(heap, 2, 1)?, one);
-    let three = (ringed(heap, 2, 1)?, two);
-    check(over_three(heap, three)?)
 }

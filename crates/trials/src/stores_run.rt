@@ -2,13 +2,13 @@ use crate::edges::nth_edge;
 use crate::edges::pair;
 use faults::store::StoreFault;
 use faults::store::StoreFaultPartialEq;
+use pairs::calls::PairsReader;
+use pairs::calls::PairsStore;
+use pairs::pairs::Pairs;
+use rows::calls::RowsReader;
+use rows::calls::RowsStore;
+use rows::rows::Rows;
 use std::test::*;
-use stores::pairs::Pairs;
-use stores::pairs_calls::PairsReader;
-use stores::pairs_calls::PairsStore;
-use stores::rows::Rows;
-use stores::rows_calls::RowsReader;
-use stores::rows_calls::RowsStore;
 use stores::store::Store;
 
 // Puts the first `n` edges, and says whether each was taken and is held.

@@ -5,10 +5,20 @@ ghost use lib.Dec.{ltb};
 ghost use lib.ListN.{length};
 ghost use Rattle.model.specs.EdgeSets.{has};
 ghost use Rattle.links.specs.Waiting.{first};
+ghost use Rattle.vaults.specs.Loads.{load-of};
 ghost use Rattle.vaults.specs.Sites.{Site, site-at, alter, send-to, strike-at, put-into, drop-from, asked, link-says, store-says, accepted, All-tables, All-bounded};
 use faults::bank::BankFault;
 use terms::edges::Change;
 use terms::edges::Edge;
+
+// How full a vault is: the messages that wait and the edges that are held, with their limits.
+#[derive(Clone, Copy)]
+pub struct Load {
+    pub waiting: usize,
+    pub link_limit: usize,
+    pub held: usize,
+    pub store_limit: usize,
+}
 
 // A bank numbers its vaults from 0; each has a link and a store of any make. It means the list of
 // its sites. A change of a vault that is not there is refused with 9 and alters nothing; a question
@@ -34,13 +44,6 @@ pub trait Bank {
         ensures answer { λ r. ⌜ r ≡ asked accepted (sites (now (self .entry))) vault ⌝ }
         ensures sites { λ _. ⌜ sites (now (self .exit)) ≡ alter vault strike-at (sites (now (self .entry))) ⌝ };
 
-    // How many messages wait.
-    fn waiting(&self, vault: usize) -> usize
-        ensures { λ r. ⌜ r ≡ length (site-at (sites (now (self .entry))) vault .waiting) ⌝ };
-
-    fn link_limit(&self, vault: usize) -> usize
-        ensures { λ r. ⌜ r ≡ site-at (sites (now (self .entry))) vault .link-limit ⌝ };
-
     fn put(&mut self, vault: usize, edge: Edge) -> Result<(), BankFault>
         ensures answer { λ r. ⌜ r ≡ asked (store-says edge) (sites (now (self .entry))) vault ⌝ }
         ensures sites { λ _. ⌜ sites (now (self .exit)) ≡ alter vault (put-into edge) (sites (now (self .entry))) ⌝ };
@@ -52,10 +55,7 @@ pub trait Bank {
     fn holds(&self, vault: usize, edge: Edge) -> bool
         ensures { λ r. ⌜ r ≡ has (site-at (sites (now (self .entry))) vault .table) edge ⌝ };
 
-    // How many edges the table holds.
-    fn held(&self, vault: usize) -> usize
-        ensures { λ r. ⌜ r ≡ length (site-at (sites (now (self .entry))) vault .table) ⌝ };
-
-    fn store_limit(&self, vault: usize) -> usize
-        ensures { λ r. ⌜ r ≡ site-at (sites (now (self .entry))) vault .store-limit ⌝ };
+    // How much waits and is held at a vault, and how much may.
+    fn load(&self, vault: usize) -> Load
+        ensures { λ r. ⌜ r ≡ load-of (site-at (sites (now (self .entry))) vault) ⌝ };
 }

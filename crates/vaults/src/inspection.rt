@@ -10,14 +10,14 @@ use faults::bank::BankFault;
 fn is_fit<B: Bank>(bank: &B, vault: usize) -> bool
     ensures { λ r. ⌜ When r (Fit-site (site-at (sites (now (bank .entry))) vault)) (Fit-site (site-at (sites (now (bank .entry))) vault) → ⊥) ⌝ }
 {
-    let waiting = bank.waiting(vault);
-    let held = bank.held(vault);
-    let link_limit = bank.link_limit(vault);
-    let store_limit = bank.store_limit(vault);
-    if waiting > 0 || held > 0 {
+    let load = bank.load(vault);
+    if load.waiting > 0 || load.held > 0 {
         return false;
     }
-    1 <= store_limit && store_limit <= 512 && 2 <= link_limit && link_limit <= 1024
+    1 <= load.store_limit
+        && load.store_limit <= 512
+        && 2 <= load.link_limit
+        && load.link_limit <= 1024
 }
 
 // Whether an installation can work with a bank: 1 to 8 vaults, store limits 1 to 512, link limits 2

@@ -1,6 +1,7 @@
 ghost use mathlib.Core.List.{[], _∷_};
 ghost use Rattle.vaults.specs.Sites.{Site};
 use crate::bank::Bank;
+use crate::bank::Load;
 use crate::vault::Vault;
 use faults::bank::BankFault;
 use faults::bank::FromLinkFault;
@@ -33,14 +34,6 @@ pub impl Bank for () as NoBank {
         Err(BankFault::NoVault)
     }
 
-    fn waiting(&self, vault: usize) -> usize {
-        0
-    }
-
-    fn link_limit(&self, vault: usize) -> usize {
-        0
-    }
-
     fn put(&mut self, vault: usize, edge: Edge) -> Result<(), BankFault> {
         Err(BankFault::NoVault)
     }
@@ -53,12 +46,13 @@ pub impl Bank for () as NoBank {
         false
     }
 
-    fn held(&self, vault: usize) -> usize {
-        0
-    }
-
-    fn store_limit(&self, vault: usize) -> usize {
-        0
+    fn load(&self, vault: usize) -> Load {
+        Load {
+            waiting: 0,
+            link_limit: 0,
+            held: 0,
+            store_limit: 0,
+        }
     }
 }
 
@@ -95,20 +89,6 @@ pub impl<L: Link, S: Store, B: Bank> Bank for (Vault<L, S>, B) as NestedBank {
         Ok(())
     }
 
-    fn waiting(&self, vault: usize) -> usize {
-        if vault > 0 {
-            return self.1.waiting(vault - 1);
-        }
-        self.0.link.count()
-    }
-
-    fn link_limit(&self, vault: usize) -> usize {
-        if vault > 0 {
-            return self.1.link_limit(vault - 1);
-        }
-        self.0.link.limit()
-    }
-
     fn put(&mut self, vault: usize, edge: Edge) -> Result<(), BankFault> {
         if vault > 0 {
             return self.1.put(vault - 1, edge);
@@ -132,17 +112,15 @@ pub impl<L: Link, S: Store, B: Bank> Bank for (Vault<L, S>, B) as NestedBank {
         self.0.store.holds(edge)
     }
 
-    fn held(&self, vault: usize) -> usize {
+    fn load(&self, vault: usize) -> Load {
         if vault > 0 {
-            return self.1.held(vault - 1);
+            return self.1.load(vault - 1);
         }
-        self.0.store.count()
-    }
-
-    fn store_limit(&self, vault: usize) -> usize {
-        if vault > 0 {
-            return self.1.store_limit(vault - 1);
+        Load {
+            waiting: self.0.link.count(),
+            link_limit: self.0.link.limit(),
+            held: self.0.store.count(),
+            store_limit: self.0.store.limit(),
         }
-        self.0.store.limit()
     }
 }

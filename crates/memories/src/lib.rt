@@ -1,0 +1,6 @@
+mod frames;
+pub mod makes;
+pub mod slots;
+pub mod slots_calls;
+pub mod strip;
+pub mod strip_calls;

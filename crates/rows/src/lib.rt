@@ -1,0 +1,3 @@
+pub mod calls;
+pub mod rows;
+mod words;
