@@ -1,3 +1,5 @@
+#![tactic(auto)]
+
 pub mod access;
 pub mod bank;
 pub mod centre;

@@ -1,6 +1,6 @@
 -- Runs that fit, and the sets that they make.
 use Rattle.std.proofs.Common.{◌≡◌, ℕ, zero, suc, ◌+◌, ◌-◌, ◌<◌, ◌≤◌, true, false, eqb, List, [], ◌∷◌, ◌++◌, length, sym, refl, ap, ◌∙◌, subst, ⊎_elim, arith, length-append}
-use Rattle.std.proofs.lemmas.Bool.{eq-eqb, ne_eqb, eqb-true, eqb-false, cases_Bool, and_parts, and_from, lt-ltb, ltb-true, le-leb, leb-true, cond_true, cond-false}
+use Rattle.std.proofs.lemmas.Bool.{eq-eqb, ne_eqb, eqb-true, eqb-false, cases_Bool, and_parts, and_from, lt-ltb, ltb-true, le-leb, leb-true, cond-true, cond-false}
 use Rattle.terms.specs.declared.edges.Edge.{Edge}
 use Rattle.terms.specs.Graph.{vault_edge}
 use Rattle.model.specs.EdgeSets.{Edges, all_vault, Table}
@@ -41,7 +41,7 @@ edges_joined c [] = refl
 edges_joined c (r ∷ rs) =
     ⊎_elim
     (λ (y : eqb r.first (suc c) ≡ true).
-    ap edges_in (cond_true _ _ _ y) ∙ ap (λ (x : ℕ). edge_at c ∷ (along x r.count ++ edges_in rs)) (sym (eqb-true r.first (suc c) y)))
+    ap edges_in (cond-true _ _ _ y) ∙ ap (λ (x : ℕ). edge_at c ∷ (along x r.count ++ edges_in rs)) (sym (eqb-true r.first (suc c) y)))
     (λ (n : eqb r.first (suc c) ≡ false). ap edges_in (cond-false _ _ _ n))
     (cases_Bool (eqb r.first (suc c)))
 
@@ -65,7 +65,7 @@ joined_fits n m c (r ∷ rs) l v k h =
     (λ (y : eqb r.first (suc c) ≡ true).
     let q : r.first ≡ suc c = eqb-true _ _ y in
     let vault : all_vault (along (suc c) r.count) ≡ true = subst (λ (x : ℕ). all_vault (along x r.count) ≡ true) q f.vault in
-    ap (all_fit n m) (cond_true _ _ _ y)
+    ap (all_fit n m) (cond-true _ _ _ y)
     ∙ and_from _ _
     (fits_from n m (run c (suc r.count)) (record { some = omega arith; later = l; few = omega (arith, f.few); vault = and_from _ _ v vault }))
     (all_moved (next r) (suc (c + suc r.count)) (m - 1 - r.count) (m - suc r.count) rs (omega arith) (omega arith) more))
@@ -106,7 +106,7 @@ pub runs_along : (c l m : ℕ) (s : Edges) (rs : List Run) → runs s ≡ rs →
 runs_along c zero m s rs q h = cell_joined c (runs s) ∙ ap (joined c) q ∙ joined_apart c m rs h
 runs_along c (suc l) m s rs q h =
     let rest = runs_along (suc c) l m s rs q (all_moved (suc (c + suc (suc l))) (suc (suc c + suc l)) m m rs (omega arith) refl h) in
-    cell_joined c (runs (along (suc c) (suc l) ++ s)) ∙ ap (joined c) rest ∙ cond_true _ _ _ (eq-eqb (suc c) (suc c) refl)
+    cell_joined c (runs (along (suc c) (suc l) ++ s)) ∙ ap (joined c) rest ∙ cond-true _ _ _ (eq-eqb (suc c) (suc c) refl)
 
 pub runs_edges : (n m : ℕ) (rs : List Run) → all_fit n m rs ≡ true → runs (edges_in rs) ≡ rs
 runs_edges n m [] h = refl
@@ -144,7 +144,7 @@ pub front_fits : (n m : ℕ) (rs : List Run) → all_fit n m (front n m rs) ≡ 
 front_fits n m [] = refl
 front_fits n m (r ∷ rs) =
     ⊎_elim
-    (λ (y : fits n m r ≡ true). ap (all_fit n m) (cond_true _ _ _ y) ∙ and_from _ _ y (front_fits (next r) (m - r.count) rs))
+    (λ (y : fits n m r ≡ true). ap (all_fit n m) (cond-true _ _ _ y) ∙ and_from _ _ y (front_fits (next r) (m - r.count) rs))
     (λ (x : fits n m r ≡ false). ap (all_fit n m) (cond-false _ _ _ x))
     (cases_Bool (fits n m r))
 
@@ -152,14 +152,14 @@ pub front_all : (n m : ℕ) (rs : List Run) → all_fit n m rs ≡ true → fron
 front_all n m [] h = refl
 front_all n m (r ∷ rs) h =
     let p = and_parts (fits n m r) (all_fit (next r) (m - r.count) rs) h in
-    cond_true _ _ _ p.0 ∙ ap (λ (ts : List Run). r ∷ ts) (front_all (next r) (m - r.count) rs p.1)
+    cond-true _ _ _ p.0 ∙ ap (λ (ts : List Run). r ∷ ts) (front_all (next r) (m - r.count) rs p.1)
 
 pub front_long : (n m : ℕ) (rs : List Run) → length (front n m rs) ≡ length rs → front n m rs ≡ rs
 front_long n m [] h = refl
 front_long n m (r ∷ rs) h =
     ⊎_elim
     (λ (y : fits n m r ≡ true).
-    let is = cond_true (fits n m r) (r ∷ front (next r) (m - r.count) rs) [] y in
+    let is = cond-true (fits n m r) (r ∷ front (next r) (m - r.count) rs) [] y in
     is ∙ ap (λ (ts : List Run). r ∷ ts) (front_long (next r) (m - r.count) rs (omega (arith, sym (ap length is) ∙ h))))
     (λ (x : fits n m r ≡ false). absurd (let w : ⊥ = omega (arith, sym (ap length (cond-false (fits n m r) (r ∷ front (next r) (m - r.count) rs) [] x)) ∙ h) in w))
     (cases_Bool (fits n m r))

@@ -1,3 +1,5 @@
+#![tactic(auto)]
+
 pub mod graph;
 pub mod search;
 pub mod tables;

@@ -1,6 +1,6 @@
 -- A set from a cell on: what is still to come in a walk over all cells.
 use Rattle.std.proofs.Common.{◌≡◌, ℕ, zero, suc, ◌+◌, ◌<◌, ◌≤◌, Bool, true, false, cond, ◌||◌, ltb, [], ◌∷◌, ◌++◌, sym, refl, ap, ◌∙◌, ⊎_elim, arith}
-use Rattle.std.proofs.lemmas.Bool.{cond_true, cond-false, cases_order, cases_lt, and_parts, and_from, le-leb, lt-ltb, le-ltb, or_from, or_parts, both_ways, false≢true}
+use Rattle.std.proofs.lemmas.Bool.{cond-true, cond-false, cases_order, cases_lt, and_parts, and_from, le-leb, lt-ltb, le-ltb, or_from, or_parts, both_ways, false≢true}
 use Rattle.std.proofs.lemmas.Bool.Decides.{nat_tests}
 use Rattle.terms.specs.declared.edges.Edge.{Edge}
 use Rattle.terms.specs.Graph.{vault_edge, same}
@@ -15,7 +15,7 @@ since c [] = []
 since c (d ∷ s) = cond (ltb (cell d) c) (since c s) (d ∷ s)
 
 skip : (c : ℕ) (d : Edge) (s : Edges) → cell d < c → since c (d ∷ s) ≡ since c s
-skip c d s l = cond_true _ _ _ (lt-ltb (cell d) c l)
+skip c d s l = cond-true _ _ _ (lt-ltb (cell d) c l)
 
 stay : (c : ℕ) (d : Edge) (s : Edges) → c ≤ cell d → since c (d ∷ s) ≡ d ∷ s
 stay c d s l = cond-false _ _ _ (le-ltb (cell d) c l)

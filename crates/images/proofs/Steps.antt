@@ -1,7 +1,7 @@
 -- One step of a walk over the cells of a run, or over the runs in bytes.
 use Rattle.std.proofs.Common.{◌≡◌, ℕ, zero, suc, ◌+◌, ◌-◌, ◌*◌, ◌<◌, ◌≤◌, Bool, true, false, ◌&&◌, ◌||◌, eqb, ltb, leb, List, [], ◌∷◌, ◌++◌, length, get_or, drop, sym, refl, ap, ◌∙◌, subst, ⊎_elim, arith, length-append, length-drop}
 use Rattle.std.proofs.lemmas.List.{drop_more}
-use Rattle.std.proofs.lemmas.Bool.{cond_true, cond-false, cases_eq, cases_Bool, eq-eqb, ne_eqb, eqb-true, and_from, and_right, or_left, both_ways}
+use Rattle.std.proofs.lemmas.Bool.{cond-true, cond-false, cases_eq, cases_Bool, eq-eqb, ne_eqb, eqb-true, and_from, and_right, or_left, both_ways}
 use Rattle.std.proofs.lemmas.Bool.Decides.{nat_tests}
 use Rattle.terms.specs.declared.edges.Edge.{Edge}
 use Rattle.terms.specs.Graph.{vault_edge, same}
@@ -89,7 +89,7 @@ module _ (bs : List ℕ) (at : Cursor) (r : Run) (h : at.place + 4 ≤ length bs
   one_fits f = record {
     within = h;
     room = (fits_parts at.least at.room r f).few;
-    goes = ap (front at.least at.room) here ∙ cond_true _ _ _ f;
+    goes = ap (front at.least at.room) here ∙ cond-true _ _ _ f;
   }
 
 -- what one run adds

@@ -1,3 +1,5 @@
+#![tactic(auto)]
+
 mod cells;
 mod cursor;
 pub mod image;

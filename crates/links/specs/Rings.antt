@@ -2,14 +2,14 @@
 use Rattle.std.specs.Prelude.{◌≡◌, ℕ, zero, suc, ◌+◌, ◌-◌, ◌<◌, ◌≤◌, ◌⊎◌, [], ◌∷◌, ◌++◌, map, length, ◌≢◌, refl}
 use Rattle.std.proofs.Common.{sym, ap, ◌∙◌, inl, inr, ⊎_elim, arith}
 use Rattle.std.specs.List.{range_with_len}
-use Rattle.std.proofs.lemmas.Bool.{cases_lt, lt-ltb, le-ltb, cond_true, cond-false}
+use Rattle.std.proofs.lemmas.Bool.{cases_lt, lt-ltb, le-ltb, cond-true, cond-false}
 use Rattle.std.proofs.lemmas.List.FromFn.{map-range_with_len_more, length-map-range_with_len}
 use Rattle.links.specs.Queues.{place, queue}
 
 pub place_cases : (n s k : ℕ) → ((s + k < n) × (place n s k ≡ s + k)) ⊎ ((n ≤ s + k) × (place n s k ≡ s + k - n))
 place_cases n s k =
     ⊎_elim
-    (λ l. inl (l, cond_true _ _ _ (lt-ltb (s + k) n l)))
+    (λ l. inl (l, cond-true _ _ _ (lt-ltb (s + k) n l)))
     (λ l. inr (l, cond-false _ _ _ (le-ltb (s + k) n l)))
     (cases_lt (s + k) n)
 

@@ -1,3 +1,5 @@
+#![tactic(auto)]
+
 mod cycle;
 mod cycle_calls;
 pub mod link;

@@ -1,3 +1,5 @@
+#![tactic(auto)]
+
 mod frames;
 pub mod makes;
 pub mod slots;

@@ -1,6 +1,6 @@
 -- What flags by cells list, and what becomes of it when one flag is turned.
 use Rattle.std.proofs.Common.{◌≡◌, ℕ, zero, suc, ◌+◌, ◌*◌, ◌/◌, ◌%◌, ◌<◌, ◌≤◌, Bool, true, false, cond, ◌||◌, ◌⊎◌, [], ◌∷◌, sym, refl, ap, ◌∙◌, subst, inl, inr, ⊎_elim, arith}
-use Rattle.std.proofs.lemmas.Bool.{or_from, or_left, cond_true, cond-false, cases_order}
+use Rattle.std.proofs.lemmas.Bool.{or_from, or_left, cond-true, cond-false, cases_order}
 use Rattle.std.proofs.lemmas.Bool.Decides.{nat_tests}
 use Rattle.terms.specs.declared.edges.Edge.{Edge}
 use Rattle.terms.specs.Graph.{edge, vault_edge, same, before}
@@ -95,7 +95,7 @@ unfolding listed
 insert_below p k c zero h = refl
 insert_below p k c (suc n) h =
     elim (p c) as (λ v. insert (edge_at k) (cond v (edge_at c ∷ listed p (suc c) n) (listed p (suc c) n)) ≡ edge_at k ∷ cond v (edge_at c ∷ listed p (suc c) n) (listed p (suc c) n)) [
-      | true ↦ cond-false (same (edge_at c) (edge_at k)) _ _ (cells_apart c k (inr h)) ∙ cond_true (before (edge_at k) (edge_at c)) _ _ (cells_before k c h)
+      | true ↦ cond-false (same (edge_at c) (edge_at k)) _ _ (cells_apart c k (inr h)) ∙ cond-true (before (edge_at k) (edge_at c)) _ _ (cells_before k c h)
       | false ↦ insert_below p k (suc c) n (omega arith)
     ]
 
@@ -143,8 +143,8 @@ module _ (p q : ℕ → Bool) (k : ℕ) (else : (j : ℕ) → (j ≡ k → ⊥) 
       (λ (e : c ≡ k).
       at_first c n false e t
       ∙ sym (delete_absent (edge_at k) (listed p (suc c) n) (has_below p k (suc c) n (omega (arith, e))))
-      ∙ sym (cond_true (same (edge_at c) (edge_at k)) _ _ (subst (λ (j : ℕ). same (edge_at c) (edge_at j) ≡ true) e (same_refl (edge_at c))))
-      ∙ ap (delete (edge_at k)) (sym (cond_true (p c) (edge_at c ∷ listed p (suc c) n) (listed p (suc c) n) (subst (λ (j : ℕ). p j ≡ true) (sym e) f))))
+      ∙ sym (cond-true (same (edge_at c) (edge_at k)) _ _ (subst (λ (j : ℕ). same (edge_at c) (edge_at j) ≡ true) e (same_refl (edge_at c))))
+      ∙ ap (delete (edge_at k)) (sym (cond-true (p c) (edge_at c ∷ listed p (suc c) n) (listed p (suc c) n) (subst (λ (j : ℕ). p j ≡ true) (sym e) f))))
       (λ (l : (c < k) × (k < suc c + n)).
       at_later c n (delete (edge_at k) (listed p (suc c) n)) l.0 (delete_listed (suc c) n l.0 l.1 f t)
       ∙ (elim (p c) as (λ v. cond v (edge_at c ∷ delete (edge_at k) (listed p (suc c) n)) (delete (edge_at k) (listed p (suc c) n)) ≡ delete (edge_at k) (cond v (edge_at c ∷ listed p (suc c) n) (listed p (suc c) n))) [

@@ -1,2 +1,4 @@
+#![tactic(auto)]
+
 pub mod laws;
 pub mod places;

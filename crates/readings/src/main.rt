@@ -1,5 +1,7 @@
-// What reads a table: it is shown as an image and opened again, and a session asks it before and
-// after a withdrawal. Once for each make of store.
+//! What reads a table: it is shown as an image and opened again, and a session asks it before and
+//! after a withdrawal. Once for each make of store.
+#![tactic(auto)]
+
 use faults::bank::BankFault;
 use faults::session::SessionFault;
 use images::image::Image;

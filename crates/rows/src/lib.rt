@@ -1,3 +1,5 @@
+#![tactic(auto)]
+
 pub mod calls;
 pub mod rows;
 mod words;

@@ -1,2 +1,4 @@
+#![tactic(auto)]
+
 pub mod edges;
 pub mod kinds;

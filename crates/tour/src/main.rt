@@ -1,5 +1,7 @@
-// A walk through links, stores and banks: messages travel over two makes of link into two makes of
-// store, and every answer is shown.
+//! A walk through links, stores and banks: messages travel over two makes of link into two makes of
+//! store, and every answer is shown.
+#![tactic(auto)]
+
 use faults::bank::BankFault;
 use links::link::Link;
 use links::queue::Queue;

@@ -1,5 +1,7 @@
-// Examples of links, stores, banks, images and sessions, run: what the contracts say of every case,
-// seen at a few.
+//! Examples of links, stores, banks, images and sessions, run: what the contracts say of every case,
+//! seen at a few.
+#![tactic(auto)]
+
 #[cfg(test)]
 mod banks_run;
 #[cfg(test)]

@@ -1,3 +1,5 @@
+#![tactic(auto)]
+
 pub mod bank;
 pub mod inspection;
 pub mod nesting;
