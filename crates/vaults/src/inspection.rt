@@ -7,7 +7,7 @@ use faults::bank::BankFault;
 
 // Whether a vault is empty and has limits that one may have.
 fn is_fit<B: Bank>(bank: &B, vault: usize) -> bool
-    ensures { MatchBool result (FitSite (site_at (sites bank.now) vault)) (FitSite (site_at (sites bank.now) vault) → ⊥) }
+    ensures { MatchBool result (FitSite (site_at (B.sites bank.now) vault)) (FitSite (site_at (B.sites bank.now) vault) → ⊥) }
 {
     let load = bank.load(vault);
     if load.waiting > 0 || load.held > 0 {
@@ -22,7 +22,7 @@ fn is_fit<B: Bank>(bank: &B, vault: usize) -> bool
 // Whether an installation can work with a bank: 1 to 8 vaults, store limits 1 to 512, link limits 2
 // to 1024, all empty. If not, it is refused with 19.
 pub fn inspect<B: Bank>(bank: &B) -> Result<(), BankFault>
-    ensures { MatchResult result (λ _. Fit (sites bank.now)) (λ f. (f ≡ BankFault.Unfit) × (Fit (sites bank.now) → ⊥)) }
+    ensures { MatchResult result (λ _. Fit (B.sites bank.now)) (λ f. (f ≡ BankFault.Unfit) × (Fit (B.sites bank.now) → ⊥)) }
 {
     if !bank.has(0) || bank.has(8) {
         return Err(BankFault::Unfit);

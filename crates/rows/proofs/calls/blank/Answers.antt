@@ -4,4 +4,4 @@ use Rattle.rows.proofs.calls.blank.Goals as goal
 
 pub returns : goal.returns
 returns c =
-    (c.in-ok-words.ensures.len, no_flags (vec_items c.in-ok-words.words) 512 (c.in-ok-words.ensures.items-if-clones-equal (λ y q. q)))
+    (c.in_ok-words.ensures.len, no_flags (vec_items c.in_ok-words.words) 512 (c.in_ok-words.ensures.items_if_clones_equal (λ y q. q)))

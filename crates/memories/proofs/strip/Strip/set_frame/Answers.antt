@@ -9,15 +9,15 @@ use Rattle.memories.proofs.strip.Strip.set_frame.Goals as goal
 pub returns : goal.returns
 returns c =
     let s = c.args.self.now.strip in
-    let xs = c.deref-mut.result.now in
-    let out = c.write-frame.new.out in
+    let xs = c.deref_mut.result.now in
+    let out = c.write_frame.new.out in
     let at = c.args.place in
     let k = length xs - 3 * at in
-    let is = c.write-frame.ensures in
-    let same : xs ≡ vec_items s = c.deref-mut.ensures.value in
-    let fits : 3 * at + 3 ≤ length xs = omega (arith, c.deref-mut.ensures.len, c.args.self.now.long, c.requires.within) in
+    let is = c.write_frame.ensures in
+    let same : xs ≡ vec_items s = c.deref_mut.ensures.value in
+    let fits : 3 * at + 3 ≤ length xs = omega (arith, c.deref_mut.ensures.len, c.args.self.now.long, c.requires.within) in
     let ys = put_mid (3 * at) k xs out in
-    let now : vec_items (with_items s ys) ≡ ys = with_items_is s ys (framed_length xs out at k refl fits c.args.message is ∙ c.deref-mut.ensures.len) in
+    let now : vec_items (with_items s ys) ≡ ys = with_items_is s ys (framed_length xs out at k refl fits c.args.message is ∙ c.deref_mut.ensures.len) in
     record {
       here = λ _ _. ap (λ (l : List ℕ). framed l at) now ∙ framed_here xs out at k refl fits c.args.message is;
       others = λ i ne. ap (λ (l : List ℕ). framed l i) now ∙ framed_else xs out at k refl fits c.args.message is i ne ∙ ap (λ (l : List ℕ). framed l i) same;

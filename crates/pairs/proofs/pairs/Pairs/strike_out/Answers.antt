@@ -4,13 +4,14 @@ use Rattle.model.proofs.Ascents.{delete_ascending}
 use Rattle.model.proofs.Members.{vault_delete}
 use Rattle.pairs.proofs.pairs.Pairs.strike_out.Goals as goal
 
-pub invariant-of-self : goal.invariant-of-self
-invariant-of-self c =
+pub invariant_of-self : goal.invariant_of-self
+invariant_of-self c =
     let s = c.args.self.now in
-    let items : delete c.args.edge (vec_items s.pairs) ≡ vec_items c.remove.new.self = c.requires.out ∙ sym c.remove.ensures.items in (
-      subst (λ (t : Edges). Ascending t) items (delete_ascending c.args.edge (vec_items s.pairs) s.sorted),
-      (
-        subst (λ (t : Edges). all_vault t ≡ true) items (vault_delete c.args.edge (vec_items s.pairs) s.vault),
-        (omega (arith, c.remove.ensures.len, s.few), (s.small, (omega (arith, c.remove.ensures.capacity, s.reserved), tt))),
-      ),
-    )
+    let items : delete c.args.edge (vec_items s.pairs) ≡ vec_items c.remove.new.self = c.requires.out ∙ sym c.remove.ensures.items in
+    record {
+      sorted = subst (λ (t : Edges). Ascending t) items (delete_ascending c.args.edge (vec_items s.pairs) s.sorted);
+      vault = subst (λ (t : Edges). all_vault t ≡ true) items (vault_delete c.args.edge (vec_items s.pairs) s.vault);
+      few = omega (arith, c.remove.ensures.len, s.few);
+      small = s.small;
+      reserved = omega (arith, c.remove.ensures.capacity, s.reserved);
+    }

@@ -3,7 +3,7 @@ use Rattle.rows.proofs.Flagged.{role_flags, no_role_flags}
 use Rattle.rows.proofs.rows.Rows.roles_of.Goals as goal
 
 pub returns-then-from-lt128 : goal.returns-then-from-lt128
-returns-then-from-lt128 c = role_flags (vec_items c.args.self.now.words) c.args.from _ c.if-from-lt128.true c.read-word.ensures
+returns-then-from-lt128 c = role_flags (vec_items c.args.self.now.words) c.args.from _ c.if-from-lt128.true c.read_word.ensures
 
 pub returns-else-from-lt128 : goal.returns-else-from-lt128
 returns-else-from-lt128 c = no_role_flags (vec_items c.args.self.now.words) c.args.from c.args.self.now.vault c.if-from-lt128.false

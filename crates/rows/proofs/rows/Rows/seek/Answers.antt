@@ -7,17 +7,17 @@ use Rattle.rows.specs.Flags.{bit_at, flagged}
 use Rattle.rows.proofs.Flagged.{has_flag, no_flag}
 use Rattle.rows.proofs.rows.Rows.seek.Goals as goal
 
-pub returns-then-not-is-vault-edge : goal.returns-then-not-is-vault-edge
-returns-then-not-is-vault-edge c =
+pub returns-then-not-is_vault_edge : goal.returns-then-not-is_vault_edge
+returns-then-not-is_vault_edge c =
     let s = c.args.self.now in
-    let n = no_flag (vec_items s.words) c.args.edge s.vault (sym c.if-not-is-vault-edge.ensures) in
+    let n = no_flag (vec_items s.words) c.args.edge s.vault (sym c.if-not-is_vault_edge.ensures) in
     (sym n, (λ q. absurd (false≢true q)), λ q. delete_absent c.args.edge (flagged (vec_items s.words)) n)
 
 pub returns : goal.returns
 returns c =
     let s = c.args.self.now in
     let e = c.args.edge in
-    let v = sym c.if-not-is-vault-edge.ensures in
-    let is : c.read-bit.result ≡ has (flagged (vec_items s.words)) e =
-    c.read-bit.ensures ∙ ap (bit_at (vec_items s.words)) c.bit-of.ensures ∙ sym (has_flag (vec_items s.words) e v) in
+    let v = sym c.if-not-is_vault_edge.ensures in
+    let is : c.read_bit.result ≡ has (flagged (vec_items s.words)) e =
+    c.read_bit.ensures ∙ ap (bit_at (vec_items s.words)) c.bit_of.ensures ∙ sym (has_flag (vec_items s.words) e v) in
     (is, (λ q. (v, insert_held e (flagged (vec_items s.words)) s.sorted (sym is ∙ q))), λ q. delete_absent e (flagged (vec_items s.words)) (sym is ∙ q))
