@@ -25,7 +25,7 @@ fn has_bit(word: u64, place: u16) -> bool
 
 // The roles that some roles reach. The edges of each role are followed once.
 fn closure<G: Graph>(graph: &G, roles: u64) -> u64
-    ensures { Closure (edges graph.now) roles result }
+    ensures { Closure (G.edges graph.now) roles result }
 {
     let mut seen = roles;
     let mut done = 0;
@@ -39,7 +39,7 @@ fn closure<G: Graph>(graph: &G, roles: u64) -> u64
 
 // Whether one of some roles has an edge to a vertex.
 fn have_edge<G: Graph>(graph: &G, roles: u64, to: u16) -> bool
-    ensures { MatchBool result (EdgeFrom (edges graph.now) roles to) (EdgeFrom (edges graph.now) roles to → ⊥) }
+    ensures { MatchBool result (EdgeFrom (G.edges graph.now) roles to) (EdgeFrom (G.edges graph.now) roles to → ⊥) }
 {
     for k in 0..64u16 {
         if has_bit(roles, k) && graph.holds(Edge { from: 64 + k, to }) {
@@ -51,7 +51,7 @@ fn have_edge<G: Graph>(graph: &G, roles: u64, to: u16) -> bool
 
 // The roles to begin with: a role itself, or those that any other vertex has an edge to.
 fn first<G: Graph>(graph: &G, from: u16) -> u64
-    ensures { Begins (edges graph.now) from result }
+    ensures { Begins (G.edges graph.now) from result }
 {
     if is_role(from) {
         1u64 << (from - 64)
@@ -62,7 +62,7 @@ fn first<G: Graph>(graph: &G, from: u16) -> u64
 
 // Whether a vertex is reached, where the roles are those that `from` reaches.
 fn is_reached<G: Graph>(graph: &G, from: u16, roles: u64, to: u16) -> bool
-    ensures { ReachesRoles (edges graph.now) from roles → result ≡ reaches (edges graph.now) from to }
+    ensures { ReachesRoles (G.edges graph.now) from roles → result ≡ reaches (G.edges graph.now) from to }
 {
     if from == to {
         return true;
@@ -75,7 +75,7 @@ fn is_reached<G: Graph>(graph: &G, from: u16, roles: u64, to: u16) -> bool
 
 // The roles that a vertex reaches, itself among them if it is a role: bit k is for role 64 + k.
 pub fn reached<G: Graph>(graph: &G, from: u16) -> u64
-    ensures { ReachesRoles (edges graph.now) from result }
+    ensures { ReachesRoles (G.edges graph.now) from result }
 {
     closure(graph, first(graph, from))
 }
@@ -83,7 +83,7 @@ pub fn reached<G: Graph>(graph: &G, from: u16) -> u64
 // Whether a vertex reaches another. Every number is answered: one that is no vertex reaches itself
 // alone.
 pub fn reaches<G: Graph>(graph: &G, from: u16, to: u16) -> bool
-    ensures { result ≡ reaches (edges graph.now) from to }
+    ensures { result ≡ reaches (G.edges graph.now) from to }
 {
     is_reached(graph, from, reached(graph, from), to)
 }

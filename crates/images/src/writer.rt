@@ -63,7 +63,7 @@ fn close(out: &mut [u8], draft: Draft, cell: usize) -> Draft
 // Writes the runs of a table behind the place of their count, and tells how many they are.
 fn write_runs<R: Reader>(table: &R, out: &mut [u8]) -> usize
     requires { 2050 ≤ length out.old }
-    ensures { Drawn (edges table.now) out.old out.new result }
+    ensures { Drawn (R.edges table.now) out.old out.new result }
 {
     let mut draft = Draft {
         runs: 0,
@@ -82,7 +82,7 @@ fn write_runs<R: Reader>(table: &R, out: &mut [u8]) -> usize
 // Writes the image of a table where there is room for any, and tells how long it is.
 fn write_image<R: Reader>(table: &R, out: &mut [u8]) -> usize
     requires { 2050 ≤ length out.old }
-    ensures { Written (edges table.now) out.old out.new result }
+    ensures { Written (R.edges table.now) out.old out.new result }
 {
     let runs = write_runs(table, out);
     put_word(out, 0, runs as u16);
@@ -92,7 +92,7 @@ fn write_image<R: Reader>(table: &R, out: &mut [u8]) -> usize
 // Writes the image of a table at the start of `out` and tells how long it is; no other byte is
 // altered. Refused unless there is room for the longest image.
 pub fn write<R: Reader>(table: &R, out: &mut [u8]) -> Result<usize, ImageFault>
-    ensures { MatchResult result (λ n. (2050 ≤ length out.old) × Written (edges table.now) out.old out.new n) (λ f. (f ≡ NoRoom) × (length out.old < 2050) × (out.new ≡ out.old)) }
+    ensures { MatchResult result (λ n. (2050 ≤ length out.old) × Written (R.edges table.now) out.old out.new n) (λ f. (f ≡ NoRoom) × (length out.old < 2050) × (out.new ≡ out.old)) }
 {
     if out.len() < LONGEST {
         return Err(ImageFault::NoRoom);

@@ -8,12 +8,12 @@ use Rattle.images.proofs.cursor.are_vault_cells.Goals as goal
 whole : (o n : ℕ) (b : Bool) → b ≡ all_vault (along o (o + n - o)) → b ≡ all_vault (along o n)
 whole o n b e = e ∙ ap (λ (x : ℕ). all_vault (along o x)) (let q : o + n - o ≡ n = omega arith in q)
 
-pub returns-then-not-is-vault-cell : goal.returns-then-not-is-vault-cell
-returns-then-not-is-vault-cell c =
-    whole c.args.run.first c.args.run.count _ (sym (vault_stop c.loop-cell.cell _ c.loop-cell-test.true (sym c.if-not-is-vault-cell.ensures)) ∙ c.loop-cell.invariant)
+pub returns-then-not-is_vault_cell : goal.returns-then-not-is_vault_cell
+returns-then-not-is_vault_cell c =
+    whole c.args.run.first c.args.run.count _ (sym (vault_stop c.loop-cell.cell _ c.loop-cell-test.true (sym c.if-not-is_vault_cell.ensures)) ∙ c.loop-cell.invariant)
 
 pub loop-cell-preserved : goal.loop-cell-preserved
-loop-cell-preserved c = sym (vault_more c.loop-cell.cell _ c.loop-cell-test.true (sym c.if-not-is-vault-cell.ensures)) ∙ c.loop-cell.invariant
+loop-cell-preserved c = sym (vault_more c.loop-cell.cell _ c.loop-cell-test.true (sym c.if-not-is_vault_cell.ensures)) ∙ c.loop-cell.invariant
 
 pub returns : goal.returns
 returns c =

@@ -6,12 +6,12 @@ use Rattle.formats.specs.Images.{held}
 use Rattle.images.proofs.Steps.{held_no_other}
 use Rattle.images.proofs.image.holds_edge.Goals as goal
 
-pub returns-then-is-vault-edge : goal.returns-then-is-vault-edge
-returns-then-is-vault-edge c =
+pub returns-then-is_vault_edge : goal.returns-then-is_vault_edge
+returns-then-is_vault_edge c =
     let e = c.args.edge in
-    let is = ap edge_at c.cell-of.ensures ∙ cell_edge e (cell_within e (sym c.if-is-vault-edge.ensures)).1 in
-    c.holds-cell.ensures ∙ ap (has (held c.args.bytes.now)) is
+    let is = ap edge_at c.cell_of.ensures ∙ cell_edge e (cell_within e (sym c.if-is_vault_edge.ensures)).1 in
+    c.holds_cell.ensures ∙ ap (has (held c.args.bytes.now)) is
 
-pub returns-else-is-vault-edge : goal.returns-else-is-vault-edge
-returns-else-is-vault-edge c =
-    c.if-is-vault-edge.false ∙ sym (held_no_other c.args.bytes.now c.args.edge (sym c.if-is-vault-edge.ensures))
+pub returns-else-is_vault_edge : goal.returns-else-is_vault_edge
+returns-else-is_vault_edge c =
+    c.if-is_vault_edge.false ∙ sym (held_no_other c.args.bytes.now c.args.edge (sym c.if-is_vault_edge.ensures))

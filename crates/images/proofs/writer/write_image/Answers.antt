@@ -4,5 +4,5 @@ use Rattle.images.proofs.writer.write_image.Goals as goal
 
 pub returns : goal.returns
 returns g c =
-    counted_in (g.R.Reader.edges c.args.table.now) c.args.out.now c.write-runs-runs.new.out c.put-word.new.out c.write-runs-runs.result
-    (omega arith) c.write-runs-runs.ensures c.put-word.ensures
+    counted_in (g.R.Reader.edges c.args.table.now) c.args.out.now c.write_runs-runs.new.out c.put_word.new.out c.write_runs-runs.result
+    (omega arith) c.write_runs-runs.ensures c.put_word.ensures

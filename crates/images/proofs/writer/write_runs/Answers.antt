@@ -33,11 +33,11 @@ loop-cell-preserved g c =
       | then-holds w ↦
           rw (w.out-is, w.draft-is)
           (walk_holds s t c.args.out.now c.requires c.loop-cell.out c.loop-cell.cell c.loop-cell.draft c.loop-cell.invariant
-          (told s c.edge-at.result c.loop-cell.cell _ c.edge-at.ensures w.if-holds.ensures))
+          (told s c.edge_at.result c.loop-cell.cell _ c.edge_at.ensures w.if-holds.ensures))
       | else-holds w ↦
           rw (w.out-is, w.draft-is)
           (walk_lacks s t c.args.out.now c.requires c.loop-cell.out w.close-draft.new.out c.loop-cell.cell c.loop-cell.draft w.close-draft.result c.loop-cell.invariant
-          (told s c.edge-at.result c.loop-cell.cell _ c.edge-at.ensures w.if-holds.ensures) w.close-draft.ensures)
+          (told s c.edge_at.result c.loop-cell.cell _ c.edge_at.ensures w.if-holds.ensures) w.close-draft.ensures)
     ]
 
 pub close-requires : goal.close-requires

@@ -7,7 +7,7 @@ returns-then-bytes-lt4 c = none_left c.args.bytes.now c.args.self.now (omega ari
 
 pub returns-then-not-takes : goal.returns-then-not-takes
 returns-then-not-takes c =
-    none_fits c.args.bytes.now c.args.self.now c.run-at-run.result (omega arith) c.run-at-run.ensures (sym c.if-not-takes.ensures)
+    none_fits c.args.bytes.now c.args.self.now c.run_at-run.result (omega arith) c.run_at-run.ensures (sym c.if-not-takes.ensures)
 
 pub returns : goal.returns
-returns c = one_fits c.args.bytes.now c.args.self.now c.run-at-run.result (omega arith) c.run-at-run.ensures (sym c.if-not-takes.ensures)
+returns c = one_fits c.args.bytes.now c.args.self.now c.run_at-run.result (omega arith) c.run_at-run.ensures (sym c.if-not-takes.ensures)
