@@ -1,5 +1,5 @@
 -- Writing runs one after another.
-use Rattle.std.specs.Prelude.{◌≡◌, ℕ, ◌+◌, ◌-◌, ◌*◌, ◌/◌, ◌%◌, ◌<◌, ◌≤◌, List, ◌++◌, length, take, drop, set, slice_set}
+use Rattle.std.specs.Prelude.{◌≡◌, ℕ, ◌+◌, ◌-◌, ◌*◌, ◌/◌, ◌%◌, ◌<◌, ◌≤◌, List, ◌++◌, length, take, drop, slice_set}
 use Rattle.model.specs.EdgeSets.{Edges}
 use Rattle.formats.specs.declared.runs.Run.{Run}
 use Rattle.formats.specs.Runs.{run, runs}

@@ -1,5 +1,5 @@
 -- A queue in a ring of places.
-use Rattle.std.specs.Prelude.{◌≡◌, ℕ, ◌+◌, ◌-◌, ◌<◌, ◌≤◌, true, false, cond, List, map, ◌≢◌, nat_lt}
+use Rattle.std.specs.Prelude.{◌≡◌, ℕ, ◌+◌, ◌-◌, cond, List, map, ◌≢◌, nat_lt}
 use Rattle.std.specs.List.{range_with_len}
 use Rattle.terms.specs.declared.edges.Change.{Change}
 use Rattle.links.specs.declared.cycle.Cycle.{Cycle}

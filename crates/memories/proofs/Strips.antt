@@ -1,5 +1,5 @@
 -- Frames on a strip: one that is written, and those beside it.
-use Rattle.std.proofs.Common.{◌≡◌, ℕ, suc, ◌+◌, ◌-◌, ◌*◌, ◌<◌, ◌≤◌, ◌⊎◌, List, [], ◌∷◌, ◌++◌, length, get_or, take, drop, sym, refl, ap, ◌∙◌, inl, inr, ⊎_elim, append-nil, arith, length-append, length-drop, length-take, get_or-drop, drop-drop}
+use Rattle.std.proofs.Common.{◌≡◌, ℕ, suc, ◌+◌, ◌-◌, ◌*◌, ◌<◌, ◌≤◌, ◌⊎◌, List, [], ◌∷◌, ◌++◌, length, get_or, take, drop, ap, ◌∙◌, inl, inr, ⊎_elim, append-nil, arith, length-append, length-drop, length-take, get_or-drop, drop-drop}
 use borrow.Rule.Slice.PartMut.{put_mid}
 use Rattle.std.proofs.lemmas.List.{places, take_all, drop_all, get_or-append_right}
 use Rattle.std.proofs.lemmas.Bool.{cases_lt}

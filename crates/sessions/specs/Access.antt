@@ -1,5 +1,5 @@
 -- Who has access, by the table of a vault.
-use Rattle.std.specs.Prelude.{◌≡◌, ℕ, Bool, true, false, cond, ◌&&◌, Ok, Err, Result}
+use Rattle.std.specs.Prelude.{ℕ, Bool, cond, ◌&&◌, Ok, Err, Result}
 use Rattle.terms.specs.Graph.{is_role, is_user_privilege}
 use Rattle.faults.specs.declared.session.SessionFault.{SessionFault}
 use Rattle.faults.specs.declared.session.SessionFault.TheVariants.{NoPrivilege}

@@ -1,4 +1,4 @@
-use Rattle.std.proofs.Common.{◌≡◌, ◌<◌, [], ◌∷◌, ◌++◌, sym, ap, ◌∙◌, arith}
+use Rattle.std.proofs.Common.{◌≡◌, [], ◌∷◌, ◌++◌, sym, ap, ◌∙◌, arith}
 use Rattle.terms.specs.declared.edges.Change.{Change}
 use Rattle.links.specs.Queues.{place, waits}
 use Rattle.links.specs.Cycles.{waits_length}

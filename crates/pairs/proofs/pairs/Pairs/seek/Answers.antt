@@ -1,6 +1,6 @@
-use Rattle.std.proofs.Common.{◌≡◌, ℕ, vec_items, sym, subst, MatchResult}
+use Rattle.std.proofs.Common.{vec_items, subst, MatchResult}
 use Rattle.std.proofs.lemmas.Result.{MatchResult-weaker}
-use Rattle.model.specs.EdgeSets.{Edges, Stands, Between, Found, Absent}
+use Rattle.model.specs.EdgeSets.{Edges, Stands, Between}
 use Rattle.model.proofs.Ranks.{found, absent}
 use Rattle.pairs.proofs.pairs.Pairs.seek.Goals as goal
 
