@@ -2,5 +2,4 @@ pub mod Waiting
 pub mod Places
 pub mod Queues
 pub mod Held
-pub mod Cycles
-pub mod Rings
+pub mod Lengths

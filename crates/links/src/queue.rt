@@ -3,8 +3,7 @@ ghost use Rattle.std.specs.List.{slice_get};
 ghost use Rattle.terms.specs.Graph.{edge_of, vault_edge};
 ghost use Rattle.links.specs.Waiting.{link_limit};
 ghost use Rattle.links.specs.Held.{held, most};
-ghost use Rattle.std.proofs.Common.{arith};
-ghost use Rattle.links.specs.Cycles.{waits_length};
+ghost use Rattle.links.specs.Lengths.{waits_few};
 
 use crate::cycle::Cycle;
 use crate::link::{Link, admit};
@@ -59,7 +58,7 @@ impl<M: Memory> Link for Queue<M> {
 
     ghost limit = { most };
 
-    ghost bounded = { λ l. omega (arith, waits_length (M.Memory.at l.memory) l.cycle, l.cycle.few) };
+    ghost bounded = { λ l. waits_few (M.Memory.at l.memory) l.cycle };
 
     fn send(&mut self, message: Change) -> Result<(), LinkFault> {
         admit(self.limit(), self.count(), message)?;

@@ -1,8 +1,8 @@
 ghost use Rattle.std.specs.Prelude.{◌≡◌, ◌<◌, true, [], IfOk, vec_len, MatchResult};
-ghost use Rattle.std.proofs.Common.{sym, rules, arith};
+ghost use Rattle.std.proofs.Common.{sym};
 ghost use Rattle.terms.specs.Graph.{vault_edge};
 ghost use Rattle.model.specs.EdgeSets.{Found, Absent, insert, delete};
-ghost use Rattle.model.proofs.Tables.{table_of};
+ghost use Rattle.model.proofs.Tables.{table_of, few_of};
 ghost use Rattle.stores.specs.Putting.{store_limit};
 ghost use Rattle.pairs.specs.Held.{pairs_edges};
 
@@ -68,7 +68,7 @@ impl Reader for Pairs {
 impl Store for Pairs {
     ghost limit = { λ p. p.limit };
 
-    ghost bounded = { first_of (Prim.search rules, Prim.grind (arith, Self.row.coded.inj)) };
+    ghost bounded = { λ p. few_of (pairs_edges p) (vec_len p.pairs) p.limit (sym p.pairs.ok.0) p.few };
 
     fn put(&mut self, edge: Edge) -> Result<(), StoreFault> {
         if !edge.is_vault_edge() {

@@ -3,11 +3,10 @@ ghost use Rattle.terms.specs.Graph.{vault_edge};
 ghost use Rattle.model.specs.EdgeSets.{◌∈◌, ◌∉◌, insert, delete};
 ghost use Rattle.model.specs.BitRows.{Row};
 ghost use Rattle.model.specs.Cells as cells;
-ghost use Rattle.model.proofs.Tables.{table_of};
+ghost use Rattle.model.proofs.Tables.{table_of, few_of};
 ghost use Rattle.stores.specs.Putting.{store_limit, Sought};
 ghost use Rattle.rows.specs.Flags.{flagged};
 ghost use Rattle.rows.specs.Held.{rows_edges};
-ghost use Rattle.std.proofs.Common.{rules, arith};
 
 use crate::rows::Rows;
 use crate::words::{read_bit, read_word, turn_bit};
@@ -110,7 +109,7 @@ impl Reader for Rows {
 impl Store for Rows {
     ghost limit = { λ r. r.limit };
 
-    ghost bounded = { first_of (Prim.search rules, Prim.grind (arith, Self.row.coded.inj)) };
+    ghost bounded = { λ r. few_of (rows_edges r) r.count r.limit r.counted r.few };
 
     fn put(&mut self, edge: Edge) -> Result<(), StoreFault> {
         if !edge.is_vault_edge() {

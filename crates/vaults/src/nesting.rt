@@ -1,6 +1,5 @@
 ghost use Rattle.std.specs.Prelude.{[], ◌∷◌};
 ghost use Rattle.vaults.specs.Sites.{Site};
-ghost use Rattle.std.proofs.Common.{rules};
 
 use crate::bank::{Bank, Load};
 use crate::vault::Vault;
@@ -15,7 +14,7 @@ impl Bank for () {
 
     ghost tables = { λ _. tt };
 
-    ghost bounded = { Prim.search rules };
+    ghost bounded = { λ _. tt };
 
     fn has(&self, vault: usize) -> bool {
         false
@@ -61,7 +60,7 @@ impl<L: Link, S: Store, B: Bank> Bank for (Vault<L, S>, B) {
 
     ghost tables = { λ b. (S.Reader.table b.0.store, B.Bank.tables b.1) };
 
-    ghost bounded = { Prim.search rules };
+    ghost bounded = { λ b. (L.Link.bounded b.0.link, S.Store.bounded b.0.store, B.Bank.bounded b.1) };
 
     fn has(&self, vault: usize) -> bool {
         vault == 0 || self.1.has(vault - 1)

@@ -1,6 +1,6 @@
 use Rattle.std.proofs.Common.{sym, refl, ap, ◌∙◌, arith}
 use Rattle.links.specs.Waiting.{rest}
-use Rattle.links.specs.Cycles.{waits_rest, waits_none}
+use Rattle.links.proofs.Cycles.{waits_rest, waits_none}
 use Rattle.links.proofs.cycle.Cycle.advance.Goals as goal
 
 pub returns-then-self-gt0 : goal.returns-then-self-gt0

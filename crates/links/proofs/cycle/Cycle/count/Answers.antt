@@ -1,5 +1,5 @@
 use Rattle.std.proofs.Common.{sym}
-use Rattle.links.specs.Cycles.{waits_length}
+use Rattle.links.specs.Lengths.{waits_length}
 use Rattle.links.proofs.cycle.Cycle.count.Goals as goal
 
 pub returns : goal.returns

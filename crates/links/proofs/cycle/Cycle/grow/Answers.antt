@@ -1,5 +1,5 @@
 use Rattle.std.proofs.Common.{refl}
-use Rattle.links.specs.Cycles.{waits_more}
+use Rattle.links.proofs.Cycles.{waits_more}
 use Rattle.links.proofs.cycle.Cycle.grow.Goals as goal
 
 pub returns : goal.returns

@@ -1,5 +1,5 @@
 use Rattle.std.proofs.Common.{refl, rules}
-use Rattle.links.specs.Cycles.{waits_none}
+use Rattle.links.proofs.Cycles.{waits_none}
 use Rattle.links.proofs.cycle.Cycle.new.Goals as goal
 
 pub returns : goal.returns

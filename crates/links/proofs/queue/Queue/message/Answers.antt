@@ -1,6 +1,6 @@
 use Rattle.std.proofs.Common.{ℕ, Some, sym, ap, ◌∙◌, arith}
 use Rattle.std.proofs.lemmas.Bool.{cond-true, lt-ltb}
-use Rattle.links.specs.Cycles.{waits_at, waits_past}
+use Rattle.links.proofs.Cycles.{waits_at, waits_past}
 use Rattle.links.proofs.queue.Queue.message.Goals as goal
 
 pub returns-then-k-self : goal.returns-then-k-self

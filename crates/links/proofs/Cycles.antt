@@ -2,17 +2,14 @@
 use Rattle.std.specs.Prelude.{◌≡◌, ℕ, suc, ◌+◌, ◌<◌, ◌≤◌, [], ◌∷◌, ◌++◌, length, Some, None}
 use Rattle.std.proofs.Common.{sym, ap, ◌∙◌, arith, add-one}
 use Rattle.std.specs.List.{slice_get}
-use Rattle.std.proofs.lemmas.List.FromFn.{length-map-range_with_len, get_or-map-range_with_len}
+use Rattle.std.proofs.lemmas.List.FromFn.{get_or-map-range_with_len}
 use Rattle.std.proofs.lemmas.Option.{slice_get-get_or, slice_get_past}
 use Rattle.terms.specs.declared.edges.Change.{Change}
 use Rattle.links.specs.declared.cycle.Cycle.{Cycle}
 use Rattle.links.specs.Waiting.{rest}
 use Rattle.links.specs.Queues.{place, queue, waits, Else}
-use Rattle.links.specs.Rings.{queue_more, queue_rest}
-
-pub waits_length : (f : ℕ → Change) (c : Cycle) → length (waits f c) ≡ c.count
-unfolding waits
-waits_length f c = length-map-range_with_len (λ k. f (place c.limit c.start k)) 0 c.count
+use Rattle.links.specs.Lengths.{waits_length}
+use Rattle.links.proofs.Rings.{queue_more, queue_rest}
 
 pub waits_none : (f : ℕ → Change) (c : Cycle) → c.count ≡ 0 → waits f c ≡ []
 unfolding waits

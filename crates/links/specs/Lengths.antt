@@ -1,0 +1,15 @@
+-- How many messages a cycle has in use: the law of links rests on it, and a law's proof cites specs/ alone.
+use Rattle.std.specs.Prelude.{◌≡◌, ℕ, ◌≤◌, length}
+use Rattle.std.proofs.Common.{arith}
+use Rattle.std.proofs.lemmas.List.FromFn.{length-map-range_with_len}
+use Rattle.terms.specs.declared.edges.Change.{Change}
+use Rattle.links.specs.declared.cycle.Cycle.{Cycle}
+use Rattle.links.specs.Queues.{place, waits}
+
+pub waits_length : (f : ℕ → Change) (c : Cycle) → length (waits f c) ≡ c.count
+unfolding waits
+waits_length f c = length-map-range_with_len (λ k. f (place c.limit c.start k)) 0 c.count
+
+-- never more than its limit
+pub waits_few : (f : ℕ → Change) (c : Cycle) → length (waits f c) ≤ c.limit
+waits_few f c = omega (arith, waits_length f c, c.few)
