@@ -1,6 +1,6 @@
--- How many messages a cycle has in use: the law of links rests on it, and a law's proof cites specs/ alone.
+-- How many messages a cycle has in use. The law of links rests on it, and code cites of its own crate what stands in specs/.
 use Rattle.std.specs.Prelude.{◌≡◌, ℕ, ◌≤◌, length}
-use Rattle.std.proofs.Common.{arith}
+use Rattle.std.proofs.Common.{sym, subst}
 use Rattle.std.proofs.lemmas.List.FromFn.{length-map-range_with_len}
 use Rattle.terms.specs.declared.edges.Change.{Change}
 use Rattle.links.specs.declared.cycle.Cycle.{Cycle}
@@ -12,4 +12,4 @@ waits_length f c = length-map-range_with_len (λ k. f (place c.limit c.start k))
 
 -- never more than its limit
 pub waits_few : (f : ℕ → Change) (c : Cycle) → length (waits f c) ≤ c.limit
-waits_few f c = omega (arith, waits_length f c, c.few)
+waits_few f c = subst (λ (n : ℕ). n ≤ c.limit) (sym (waits_length f c)) c.few
