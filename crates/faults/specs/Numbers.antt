@@ -39,6 +39,10 @@ abbrev pub access_number : AccessFault → ℕ
 access_number (access.TheVariants.Image f) = image_number f
 access_number (access.TheVariants.Session f) = session_number f
 
+abbrev pub access_layer : AccessFault → Layer
+access_layer (access.TheVariants.Image f) = layer.TheVariants.Text
+access_layer (access.TheVariants.Session f) = layer.TheVariants.Session
+
 abbrev pub bank_number : BankFault → ℕ
 bank_number bank.TheVariants.NoVault = 9
 bank_number bank.TheVariants.Unfit = 19

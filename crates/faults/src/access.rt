@@ -1,8 +1,11 @@
 ghost use Rattle.std.specs.Prelude.{◌≡◌};
-ghost use Rattle.faults.specs.Numbers.{access_number};
+ghost use Rattle.std.proofs.Common.{rules};
+ghost use Rattle.faults.specs.Numbers.{access_number, access_layer};
 ghost use Rattle.faults.specs.declared.access.AccessFault.TheVariants.{Image as OfImage, Session as OfSession};
 
 use crate::image::ImageFault;
+use crate::layers::Layer;
+use crate::refusal::Refusal;
 use crate::session::SessionFault;
 
 // Why a question about an image is refused: by the image or by the session over it.
@@ -12,13 +15,24 @@ pub enum AccessFault {
     Session(SessionFault),
 }
 
-impl AccessFault {
-    pub fn number(&self) -> u8
-        ensures { result ≡ access_number self.now }
-    {
+impl Refusal for AccessFault {
+    ghost number = { access_number };
+
+    ghost layer = { access_layer };
+
+    ghost listed = { Prim.search rules };
+
+    fn number(&self) -> u8 {
         match self {
             AccessFault::Image(fault) => fault.number(),
             AccessFault::Session(fault) => fault.number(),
+        }
+    }
+
+    fn layer(&self) -> Layer {
+        match self {
+            AccessFault::Image(fault) => fault.layer(),
+            AccessFault::Session(fault) => fault.layer(),
         }
     }
 }

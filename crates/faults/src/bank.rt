@@ -1,9 +1,11 @@
 ghost use Rattle.std.specs.Prelude.{◌≡◌};
+ghost use Rattle.std.proofs.Common.{rules};
 ghost use Rattle.faults.specs.Numbers.{bank_number, bank_layer};
 ghost use Rattle.faults.specs.declared.bank.BankFault.TheVariants.{Link as OfLink, Store as OfStore};
 
 use crate::layers::Layer;
 use crate::link::LinkFault;
+use crate::refusal::Refusal;
 use crate::store::StoreFault;
 
 // Why a bank refuses: there is no vault of that number, inspection turns it down, or the link or the
@@ -16,10 +18,14 @@ pub enum BankFault {
     Store(StoreFault),
 }
 
-impl BankFault {
-    pub fn number(&self) -> u8
-        ensures { result ≡ bank_number self.now }
-    {
+impl Refusal for BankFault {
+    ghost number = { bank_number };
+
+    ghost layer = { bank_layer };
+
+    ghost listed = { Prim.search rules };
+
+    fn number(&self) -> u8 {
         match self {
             BankFault::NoVault => 9,
             BankFault::Unfit => 19,
@@ -28,9 +34,7 @@ impl BankFault {
         }
     }
 
-    pub fn layer(&self) -> Layer
-        ensures { result ≡ bank_layer self.now }
-    {
+    fn layer(&self) -> Layer {
         match self {
             BankFault::NoVault => Layer::Centre,
             BankFault::Unfit => Layer::Centre,

@@ -1,8 +1,10 @@
 ghost use Rattle.std.specs.Prelude.{◌≡◌};
+ghost use Rattle.std.proofs.Common.{rules};
 ghost use Rattle.faults.specs.Numbers.{centre_number, centre_layer, centre_place};
 
 use crate::layers::Layer;
 use crate::link::LinkFault;
+use crate::refusal::Refusal;
 use crate::store::StoreFault;
 
 // The vault that a refusal is about.
@@ -30,10 +32,14 @@ pub enum CentreFault {
     Store(VaultPlace, StoreFault),
 }
 
-impl CentreFault {
-    pub fn number(&self) -> u8
-        ensures { result ≡ centre_number self.now }
-    {
+impl Refusal for CentreFault {
+    ghost number = { centre_number };
+
+    ghost layer = { centre_layer };
+
+    ghost listed = { Prim.search rules };
+
+    fn number(&self) -> u8 {
         match self {
             CentreFault::NoUser => 1,
             CentreFault::NoEdge => 2,
@@ -52,16 +58,16 @@ impl CentreFault {
         }
     }
 
-    pub fn layer(&self) -> Layer
-        ensures { result ≡ centre_layer self.now }
-    {
+    fn layer(&self) -> Layer {
         match self {
             CentreFault::Link(_, fault) => fault.layer(),
             CentreFault::Store(_, fault) => fault.layer(),
             _ => Layer::Centre,
         }
     }
+}
 
+impl CentreFault {
     // The vault that is short of room, or whose link or store refuses.
     pub fn place(&self) -> Option<VaultPlace>
         ensures { result ≡ centre_place self.now }

@@ -6,5 +6,6 @@ pub mod centre;
 pub mod image;
 pub mod layers;
 pub mod link;
+pub mod refusal;
 pub mod session;
 pub mod store;

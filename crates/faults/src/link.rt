@@ -1,29 +1,29 @@
-ghost use Rattle.std.specs.Prelude.{◌≡◌};
+ghost use Rattle.std.proofs.Common.{rules};
 ghost use Rattle.faults.specs.Numbers.{link_number};
 ghost use Rattle.faults.specs.declared.layers.Layer.TheVariants.{Link as InLink};
 
 use crate::layers::Layer;
+use crate::refusal::Refusal;
 
 // Why a link refuses a message: it is not about a vault edge, or as many wait as may.
 #[derive(Clone, Copy, PartialEq, Eq)]
 pub enum LinkFault {
-    NoVaultEdge,
-    Full,
+    NoVaultEdge = 2,
+    Full = 13,
 }
 
-impl LinkFault {
-    pub fn number(&self) -> u8
-        ensures { result ≡ link_number self.now }
-    {
-        match self {
-            LinkFault::NoVaultEdge => 2,
-            LinkFault::Full => 13,
-        }
+impl Refusal for LinkFault {
+    ghost number = { link_number };
+
+    ghost layer = { λ _. InLink };
+
+    ghost listed = { Prim.search rules };
+
+    fn number(&self) -> u8 {
+        *self as u8
     }
 
-    pub fn layer(&self) -> Layer
-        ensures { result ≡ InLink }
-    {
+    fn layer(&self) -> Layer {
         Layer::Link
     }
 }

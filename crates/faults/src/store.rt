@@ -1,29 +1,29 @@
-ghost use Rattle.std.specs.Prelude.{◌≡◌};
+ghost use Rattle.std.proofs.Common.{rules};
 ghost use Rattle.faults.specs.Numbers.{store_number};
 ghost use Rattle.faults.specs.declared.layers.Layer.TheVariants.{Store as InStore};
 
 use crate::layers::Layer;
+use crate::refusal::Refusal;
 
 // Why a store refuses a pair: it is no vault edge, or the table is at its limit.
 #[derive(Clone, Copy, PartialEq, Eq)]
 pub enum StoreFault {
-    NoVaultEdge,
-    Full,
+    NoVaultEdge = 2,
+    Full = 12,
 }
 
-impl StoreFault {
-    pub fn number(&self) -> u8
-        ensures { result ≡ store_number self.now }
-    {
-        match self {
-            StoreFault::NoVaultEdge => 2,
-            StoreFault::Full => 12,
-        }
+impl Refusal for StoreFault {
+    ghost number = { store_number };
+
+    ghost layer = { λ _. InStore };
+
+    ghost listed = { Prim.search rules };
+
+    fn number(&self) -> u8 {
+        *self as u8
     }
 
-    pub fn layer(&self) -> Layer
-        ensures { result ≡ InStore }
-    {
+    fn layer(&self) -> Layer {
         Layer::Store
     }
 }

@@ -2,8 +2,6 @@
 ghost use Rattle.model.specs.SetLaws.{EdgeSetsHold};
 
 // What insertion and deletion do to a set of edges.
-pub fn edge_sets_hold() -> u8
+pub fn edge_sets_hold()
     ensures { EdgeSetsHold }
-{
-    0
-}
+{}

@@ -1,4 +1,5 @@
 #![tactic(auto)]
 
+pub mod cell;
 pub mod laws;
 pub mod places;

@@ -4,7 +4,8 @@ ghost use Rattle.model.specs.EdgeSets.{no_edge, Stands, Between};
 
 use terms::edges::Edge;
 
-// The first place from which on no edge comes before `edge`, by halving.
+// The first place from which on no edge comes before `edge`, by halving. The slice's own searches
+// promise neighbours only in a list that is in order; this one promises them in any list.
 fn lower(edges: &[Edge], edge: Edge) -> usize
     ensures within { result ≤ length edges.now }
     ensures front { (j : ℕ) → result ≡ suc j → before (slice_index_or edges.now j no_edge) edge ≡ true }
@@ -14,7 +15,7 @@ fn lower(edges: &[Edge], edge: Edge) -> usize
     let mut high = edges.len();
     while low < high {
         let middle = low + (high - low) / 2;
-        if edges[middle].before(edge) {
+        if edges[middle] < edge {
             low = middle + 1;
         } else {
             high = middle;
@@ -29,7 +30,7 @@ pub fn find(edges: &[Edge], edge: Edge) -> Result<usize, usize>
     ensures { MatchResult result (λ i. Stands edge edges.now i) (λ i. Between edge edges.now i) }
 {
     let at = lower(edges, edge);
-    if at < edges.len() && edges[at].same(edge) {
+    if edges.get(at) == Some(&edge) {
         Ok(at)
     } else {
         Err(at)

@@ -1,12 +1,20 @@
 -- The kind of a vertex.
-use Rattle.std.specs.Prelude.{ℕ, cond, Some, None, Option}
+use Rattle.std.specs.Prelude.{ℕ, Bool, if◌then◌else◌, Some, None, Option}
 use Rattle.terms.specs.declared.kinds.Kind.{Kind}
 use Rattle.terms.specs.declared.kinds.Kind.TheVariants.{User, Role, UserPrivilege, AdminPrivilege}
 use Rattle.terms.specs.Graph.{is_user, is_role, is_user_privilege, is_admin_privilege}
 
+-- whether a vertex is of a kind
+abbrev pub of_kind : Kind → ℕ → Bool
+of_kind User = is_user
+of_kind Role = is_role
+of_kind UserPrivilege = is_user_privilege
+of_kind AdminPrivilege = is_admin_privilege
+
 abbrev pub kind_of : ℕ → Option Kind
 kind_of v =
-    cond (is_user v) (Some User)
-    (cond (is_role v) (Some Role)
-    (cond (is_user_privilege v) (Some UserPrivilege)
-    (cond (is_admin_privilege v) (Some AdminPrivilege) None)))
+    if is_user v then Some User
+    else if is_role v then Some Role
+    else if is_user_privilege v then Some UserPrivilege
+    else if is_admin_privilege v then Some AdminPrivilege
+    else None

@@ -1,2 +1,3 @@
 pub mod Graph
 pub mod Kinds
+pub mod Limits

@@ -1,10 +1,12 @@
 ghost use Rattle.std.specs.Prelude.{◌≡◌};
-ghost use Rattle.terms.specs.Graph.{is_edge, vault_edge, edge_of, same, before};
+ghost use Rattle.terms.specs.Graph.{is_edge, vault_edge, edge_of};
 
-use crate::kinds::{is_admin_privilege, is_role, is_user, is_user_privilege};
+use crate::kinds::Kind;
+use std::fmt;
 
 // Two vertices of the policy graph, the second reached from the first. Not every pair is an edge.
-#[derive(Clone, Copy, PartialEq, Eq)]
+// Edges are ordered by the first vertex, then by the second.
+#[derive(Clone, Copy, PartialEq, Eq, PartialOrd, Ord)]
 pub struct Edge {
     pub from: u16,
     pub to: u16,
@@ -23,11 +25,11 @@ impl Edge {
     pub fn is_edge(&self) -> bool
         ensures { result ≡ is_edge self.now }
     {
-        if is_user(self.from) {
-            return is_role(self.to);
+        match (Kind::of(self.from), Kind::of(self.to)) {
+            (Some(Kind::User), Some(to)) => to == Kind::Role,
+            (Some(Kind::Role), Some(to)) => to != Kind::User,
+            _ => false,
         }
-        let to_privilege = is_user_privilege(self.to) || is_admin_privilege(self.to);
-        is_role(self.from) && (is_role(self.to) || to_privilege)
     }
 
     // Whether the pair is a vault edge: an edge that has no administrative privilege in it.
@@ -35,19 +37,6 @@ impl Edge {
         ensures { result ≡ vault_edge self.now }
     {
         self.is_edge() && self.from < 256 && self.to < 256
-    }
-
-    pub fn same(&self, other: Edge) -> bool
-        ensures { result ≡ same self.now other }
-    {
-        self.from == other.from && self.to == other.to
-    }
-
-    // The order of sets of edges: by the first vertex, then by the second.
-    pub fn before(&self, other: Edge) -> bool
-        ensures { result ≡ before self.now other }
-    {
-        self.from < other.from || (self.from == other.from && self.to < other.to)
     }
 }
 
@@ -59,6 +48,24 @@ impl Change {
         match self {
             Change::Add(e) => *e,
             Change::Remove(e) => *e,
+        }
+    }
+}
+
+// An edge as its two numbers.
+impl fmt::Display for Edge {
+    fn fmt<W: fmt::Write>(&self, f: &mut fmt::Formatter<W>) -> fmt::Result {
+        let Edge { from, to } = *self;
+        write!(f, "{from} {to}")
+    }
+}
+
+// A change as its sign and its edge.
+impl fmt::Display for Change {
+    fn fmt<W: fmt::Write>(&self, f: &mut fmt::Formatter<W>) -> fmt::Result {
+        match self {
+            Change::Add(edge) => write!(f, "+{edge}"),
+            Change::Remove(edge) => write!(f, "-{edge}"),
         }
     }
 }

@@ -1,6 +1,5 @@
 ghost use Rattle.std.specs.Prelude.{◌≡◌};
-ghost use Rattle.terms.specs.Graph.{is_user, is_role, is_user_privilege, is_admin_privilege};
-ghost use Rattle.terms.specs.Kinds.{kind_of};
+ghost use Rattle.terms.specs.Kinds.{kind_of, of_kind};
 
 // The kinds of vertices. A user privilege is the right to a record; an administrative privilege is
 // the right to add or to remove one edge.
@@ -10,30 +9,6 @@ pub enum Kind {
     Role,
     UserPrivilege,
     AdminPrivilege,
-}
-
-pub fn is_user(vertex: u16) -> bool
-    ensures { result ≡ is_user vertex }
-{
-    vertex < 64
-}
-
-pub fn is_role(vertex: u16) -> bool
-    ensures { result ≡ is_role vertex }
-{
-    64 <= vertex && vertex < 128
-}
-
-pub fn is_user_privilege(vertex: u16) -> bool
-    ensures { result ≡ is_user_privilege vertex }
-{
-    128 <= vertex && vertex < 256
-}
-
-pub fn is_admin_privilege(vertex: u16) -> bool
-    ensures { result ≡ is_admin_privilege vertex }
-{
-    256 <= vertex && vertex < 384
 }
 
 impl Kind {
@@ -48,5 +23,12 @@ impl Kind {
             256..384 => Some(Kind::AdminPrivilege),
             _ => None,
         }
+    }
+
+    // Whether a number is a vertex of this kind.
+    pub fn has(self, vertex: u16) -> bool
+        ensures { result ≡ of_kind self vertex }
+    {
+        Kind::of(vertex) == Some(self)
     }
 }

@@ -1,0 +1,19 @@
+ghost use Rattle.std.specs.Prelude.{◌≡◌, ℕ, ◌≤◌};
+ghost use Rattle.faults.specs.declared.layers.Layer.{Layer};
+
+use crate::layers::Layer;
+
+// What every fault tells of itself: the number that it is listed under, and the layer that refuses.
+pub trait Refusal {
+    ghost number: { Self → ℕ };
+
+    ghost layer: { Self → Layer };
+
+    fn number(&self) -> u8
+        ensures { result ≡ number self.now };
+
+    fn layer(&self) -> Layer
+        ensures { result ≡ layer self.now };
+
+    ghost listed: { (f : Self) → (1 ≤ number f) × (number f ≤ 21) };
+}

@@ -1,0 +1,11 @@
+ghost use Rattle.std.specs.Prelude.{◌≡◌};
+ghost use Rattle.model.specs.Cells as cells;
+
+use terms::edges::Edge;
+
+// The cell of an edge.
+pub fn cell_of(edge: Edge) -> u32
+    ensures { result ≡ cells.cell edge }
+{
+    u32::from(edge.from) * 256 + u32::from(edge.to)
+}

@@ -1,0 +1,26 @@
+ghost use Rattle.std.specs.Prelude.{◌≡◌, ◌≤◌};
+ghost use Rattle.terms.specs.Limits.{is_limit, limit_of};
+
+// The limits that something may be made with: `least` to `most`.
+#[derive(Clone, Copy)]
+pub struct Limits {
+    pub least: usize,
+    pub most: usize,
+}
+
+impl Limits {
+    // Whether a limit is one of them.
+    pub fn has(&self, limit: usize) -> bool
+        ensures { result ≡ is_limit self.now limit }
+    {
+        self.least <= limit && limit <= self.most
+    }
+
+    // The limit of what is made with `wanted`: with any number that is none of them it is 0.
+    pub fn allow(&self, wanted: usize) -> usize
+        ensures value { result ≡ limit_of self.now wanted }
+        ensures bound { result ≤ self.now.most }
+    {
+        if self.has(wanted) { wanted } else { 0 }
+    }
+}
