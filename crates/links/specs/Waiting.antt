@@ -1,14 +1,16 @@
 -- What a link means: the messages that wait, the oldest first, and a limit.
-use Rattle.std.specs.Prelude.{ℕ, cond, ◌&&◌, List, [], ◌∷◌, ◌++◌, length, Ok, Err, Option, Result, nat_le, nat_lt}
+use Rattle.std.specs.Prelude.{ℕ, if◌then◌else◌, ◌&&◌, List, [], ◌∷◌, ◌++◌, length, Ok, Err, Option, Result, nat_lt}
 use Rattle.std.specs.List.{slice_get}
 use Rattle.terms.specs.declared.edges.Change.{Change}
+use Rattle.terms.specs.declared.limits.Limits.{Limits}
+use Rattle.terms.specs.Limits.{limit_of}
 use Rattle.terms.specs.Graph.{edge_of, vault_edge}
 use Rattle.faults.specs.declared.link.LinkFault.{LinkFault}
 use Rattle.faults.specs.declared.link.LinkFault.TheVariants.{NoVaultEdge, Full}
 
 -- whether a message is taken where n wait: the first question that is answered no
 abbrev pub admits : ℕ → ℕ → Change → Result (Unit {0}) LinkFault
-admits limit n m = cond (vault_edge (edge_of m)) (cond (nat_lt n limit) (Ok tt) (Err Full)) (Err NoVaultEdge)
+admits limit n m = if vault_edge (edge_of m) then (if nat_lt n limit then Ok tt else Err Full) else Err NoVaultEdge
 
 -- the answer to a message that is sent
 abbrev pub send_answer : ℕ → List Change → Change → Result (Unit {0}) LinkFault
@@ -16,7 +18,7 @@ send_answer limit ms m = admits limit (length ms) m
 
 -- and the list after it
 abbrev pub sent : ℕ → List Change → Change → List Change
-sent limit ms m = cond (vault_edge (edge_of m) && nat_lt (length ms) limit) (ms ++ (m ∷ [])) ms
+sent limit ms m = if vault_edge (edge_of m) && nat_lt (length ms) limit then ms ++ (m ∷ []) else ms
 
 -- the oldest message, or none
 abbrev pub first : List Change → Option Change
@@ -26,6 +28,10 @@ abbrev pub rest : List Change → List Change
 rest [] = []
 rest (m ∷ ms) = ms
 
--- the limit of a link that was made with n: 2 to 1024, and any other number gives a link that takes nothing
+-- the limits that a link may be made with
+abbrev pub link_limits : Limits
+link_limits = record { least = 2; most = 1024 }
+
+-- the limit of a link that was made with n: any other number gives a link that takes nothing
 abbrev pub link_limit : ℕ → ℕ
-link_limit n = cond (nat_le 2 n && nat_le n 1024) n 0
+link_limit n = limit_of link_limits n

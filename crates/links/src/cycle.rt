@@ -1,5 +1,7 @@
 ghost use Rattle.std.specs.Prelude.{◌-◌, ◌≤◌};
 
+use crate::link::LIMITS;
+
 // The places in use of a ring of `limit` places: `count` of them, from `start` on.
 #[derive(Drop)]
 pub struct Cycle {
@@ -9,4 +11,61 @@ pub struct Cycle {
     ghost small: { limit ≤ 1024 },
     ghost begun: { start ≤ limit - 1 },
     ghost few: { count ≤ limit },
+}
+
+// In each clause f says which message lies in each place.
+impl Cycle {
+    ghost use Rattle.std.specs.Prelude.{◌≡◌, ℕ, ◌+◌, ◌<◌, ◌≤◌, [], ◌∷◌, ◌++◌, length};
+    ghost use Rattle.terms.specs.declared.edges.Change.{Change};
+    ghost use Rattle.links.specs.Waiting.{link_limit, rest};
+    ghost use Rattle.links.specs.Queues.{place, waits, Else};
+
+    // No place in use, of as many as a link may have that is made with `wanted`.
+    pub(crate) fn new(wanted: usize) -> Cycle
+        ensures limit { result.limit ≡ link_limit wanted }
+        ensures list { (f : ℕ → Change) → waits f result ≡ [] }
+    {
+        Cycle {
+            limit: LIMITS.allow(wanted),
+            start: 0,
+            count: 0,
+        }
+    }
+
+    // The k-th place from the start on.
+    pub(crate) fn place(&self, k: usize) -> usize
+        requires some { 0 < self.now.limit }
+        requires within { k ≤ self.now.limit }
+        ensures value { result ≡ place self.now.limit self.now.start k }
+        ensures bound { result < self.now.limit }
+    {
+        let at = self.start + k;
+        if at < self.limit { at } else { at - self.limit }
+    }
+
+    pub(crate) fn count(&self) -> usize
+        ensures { (f : ℕ → Change) → result ≡ length (waits f self.now) }
+    {
+        self.count
+    }
+
+    // Takes the next place into use: f is what lay in each place before, g what lies there now.
+    pub(crate) fn grow(&mut self)
+        requires { self.old.count < self.old.limit }
+        ensures limit { self.new.limit ≡ self.old.limit }
+        ensures list { (f g : ℕ → Change) → Else f g (place self.old.limit self.old.start self.old.count) → waits g self.new ≡ waits f self.old ++ (g (place self.old.limit self.old.start self.old.count) ∷ []) }
+    {
+        self.count += 1;
+    }
+
+    // Frees the first place in use, if there is one.
+    pub(crate) fn advance(&mut self)
+        ensures limit { self.new.limit ≡ self.old.limit }
+        ensures list { (f : ℕ → Change) → waits f self.new ≡ rest (waits f self.old) }
+    {
+        if self.count > 0 {
+            self.start = self.place(1);
+            self.count -= 1;
+        }
+    }
 }

@@ -6,6 +6,13 @@ ghost use Rattle.links.specs.Waiting.{admits};
 
 use faults::link::LinkFault;
 use terms::edges::Change;
+use terms::limits::Limits;
+
+// The limits that a link may be made with.
+pub const LIMITS: Limits = Limits {
+    least: 2,
+    most: 1024,
+};
 
 // A link carries messages from the centre to one vault. It means the list of the messages that wait,
 // the oldest first, and a limit on how many may. A make of link says by these two ghost members what

@@ -1,4 +1,4 @@
-ghost use Rattle.std.specs.Prelude.{◌≡◌, ◌<◌, true, [], ◌∷◌, ◌++◌, length};
+ghost use Rattle.std.specs.Prelude.{◌≡◌, ◌<◌, true, [], ◌∷◌, ◌++◌, length, IfOk};
 ghost use Rattle.std.specs.List.{slice_get};
 ghost use Rattle.terms.specs.Graph.{edge_of, vault_edge};
 ghost use Rattle.links.specs.Waiting.{link_limit};
@@ -7,8 +7,9 @@ ghost use Rattle.links.specs.Lengths.{waits_few};
 
 use crate::cycle::Cycle;
 use crate::link::{Link, admit};
-use crate::memory::Memory;
+use crate::memory::{Blank, Memory};
 use faults::link::LinkFault;
+use std::alloc::{AllocError, Global};
 use terms::edges::Change;
 
 // A link that keeps its messages in a ring of places.
@@ -50,6 +51,15 @@ impl<M: Memory> Queue<M> {
             return None;
         }
         self.memory.read(self.cycle.place(k))
+    }
+}
+
+impl<M: Blank> Queue<M> {
+    // An empty link in memory of its own, with a limit as `new` gives it.
+    pub fn made(heap: Global, limit: usize) -> Result<Queue<M>, AllocError>
+        ensures { IfOk result (λ q. (held M.Memory.at q ≡ []) × (most q ≡ link_limit limit)) }
+    {
+        Ok(Queue::new(M::blank(heap)?, limit))
     }
 }
 

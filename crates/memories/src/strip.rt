@@ -1,8 +1,62 @@
 ghost use Rattle.std.specs.Prelude.{◌≡◌, vec_len};
 
+use crate::frames::{read_frame, write_frame};
+use links::memory::{Blank, Memory};
+use std::alloc::{AllocError, Global};
+use terms::edges::Change;
+
 // Memory that keeps each message as a frame of three bytes, on one strip.
 #[derive(Drop)]
 pub struct Strip {
-    pub(crate) strip: Vec<u8>,
+    strip: Vec<u8>,
     ghost long: { vec_len strip ≡ 3072 },
+}
+
+impl Strip {
+    ghost use Rattle.std.specs.Prelude.{◌≡◌, ◌<◌, true};
+    ghost use Rattle.terms.specs.Graph.{edge_of, vault_edge};
+    ghost use Rattle.links.specs.Places.{Stored};
+    ghost use Rattle.memories.specs.Lying.{strip_at};
+
+    fn frame(&self, place: usize) -> Change
+        requires { place < 1024 }
+        ensures { result ≡ strip_at self.now place }
+    {
+        read_frame(&self.strip[3 * place..])
+    }
+
+    // The strip is lent to the frame writer from the frame's place on.
+    fn set_frame(&mut self, place: usize, message: Change)
+        requires within { place < 1024 }
+        requires vault { vault_edge (edge_of message) ≡ true }
+        ensures { Stored (strip_at self.old) (strip_at self.new) place message }
+    {
+        write_frame(&mut self.strip[3 * place..], message);
+    }
+}
+
+impl Memory for Strip {
+    ghost use Rattle.memories.specs.Lying.{strip_at};
+
+    ghost at = { strip_at };
+
+    fn read(&self, place: usize) -> Option<Change> {
+        if place >= 1024 {
+            return None;
+        }
+        Some(self.frame(place))
+    }
+
+    fn write(&mut self, place: usize, message: Change) {
+        if place < 1024 && message.edge().is_vault_edge() {
+            self.set_frame(place, message);
+        }
+    }
+}
+
+impl Blank for Strip {
+    fn blank(heap: Global) -> Result<Strip, AllocError> {
+        let strip = vec![in heap; 0; 3072]?;
+        Ok(Strip { strip })
+    }
 }
