@@ -1,16 +1,111 @@
-ghost use Rattle.std.specs.Prelude.{◌≡◌, ◌≤◌, true, length, vec_len, vec_capacity};
-ghost use Rattle.model.specs.EdgeSets.{all_vault, ascends};
+ghost use Rattle.std.specs.Prelude.{◌≡◌, ◌<◌, ◌≤◌, true, MatchResult, vec_len, vec_capacity};
+ghost use Rattle.std.proofs.Common.{sym};
+ghost use Rattle.terms.specs.Graph.{vault_edge};
+ghost use Rattle.model.specs.EdgeSets.{Found, Absent, all_vault, ascends, insert, delete};
+ghost use Rattle.model.proofs.Tables.{table_of, few_of};
 
+use faults::store::StoreFault;
+use model::places::find;
+use std::alloc::{AllocError, Global};
+use stores::store::{LIMITS, Made, Reader, Store};
 use terms::edges::Edge;
 
-// A store that keeps a list of edges, ascending by from, then by to.
+// A store that keeps a list of edges, ascending by from, then by to. It is no tree or map, since
+// these ask for memory with each edge; its room is reserved when it is made.
 #[derive(Drop)]
 pub struct Pairs {
-    pub(crate) pairs: Vec<Edge>,
-    pub(crate) limit: usize,
+    pairs: Vec<Edge>,
+    limit: usize,
     ghost sorted: { ascends pairs.items ≡ true },
     ghost vault: { all_vault pairs.items ≡ true },
     ghost few: { vec_len pairs ≤ limit },
     ghost small: { limit ≤ 512 },
     ghost reserved: { limit ≤ vec_capacity pairs },
+}
+
+impl Pairs {
+    ghost use Rattle.pairs.specs.Held.{pairs_edges};
+
+    // Ok with the place of an edge, or Err with the place where it would go.
+    fn seek(&self, edge: Edge) -> Result<usize, usize>
+        ensures { MatchResult result (λ i. Found edge (pairs_edges self.now) i) (λ i. Absent edge (pairs_edges self.now) i) }
+    {
+        find(&self.pairs, edge)
+    }
+
+    // Puts an edge that is absent into its place.
+    fn enter(&mut self, at: usize, edge: Edge)
+        requires vault { vault_edge edge ≡ true }
+        requires absent { Absent edge (pairs_edges self.old) at }
+        requires room { vec_len self.old.pairs < self.old.limit }
+        ensures edges { pairs_edges self.new ≡ insert edge (pairs_edges self.old) }
+        ensures limit { self.new.limit ≡ self.old.limit }
+    {
+        let _ = self.pairs.insert(at, edge);
+    }
+
+    // Takes the edge out that stands at a place.
+    fn strike_out(&mut self, at: usize, edge: Edge)
+        requires { Found edge (pairs_edges self.old) at }
+        ensures edges { pairs_edges self.new ≡ delete edge (pairs_edges self.old) }
+        ensures limit { self.new.limit ≡ self.old.limit }
+    {
+        let _ = self.pairs.remove(at);
+    }
+}
+
+impl Reader for Pairs {
+    ghost use Rattle.pairs.specs.Held.{pairs_edges};
+
+    ghost edges = { pairs_edges };
+
+    ghost table = { λ p. table_of (pairs_edges p) (vec_len p.pairs) p.limit p.sorted p.vault (sym p.pairs.ok.0) p.few p.small };
+
+    fn holds(&self, edge: Edge) -> bool {
+        self.seek(edge).is_ok()
+    }
+
+    fn count(&self) -> usize {
+        self.pairs.len()
+    }
+}
+
+impl Store for Pairs {
+    ghost use Rattle.pairs.specs.Held.{pairs_edges};
+
+    ghost limit = { λ p. p.limit };
+
+    ghost bounded = { λ p. few_of (pairs_edges p) (vec_len p.pairs) p.limit (sym p.pairs.ok.0) p.few };
+
+    fn put(&mut self, edge: Edge) -> Result<(), StoreFault> {
+        if !edge.is_vault_edge() {
+            return Err(StoreFault::NoVaultEdge);
+        }
+        match self.seek(edge) {
+            Ok(_) => Ok(()),
+            Err(_) if self.pairs.len() == self.limit => Err(StoreFault::Full),
+            Err(at) => {
+                self.enter(at, edge);
+                Ok(())
+            }
+        }
+    }
+
+    fn drop(&mut self, edge: Edge) {
+        if let Ok(at) = self.seek(edge) {
+            self.strike_out(at, edge);
+        }
+    }
+
+    fn limit(&self) -> usize {
+        self.limit
+    }
+}
+
+impl Made for Pairs {
+    fn new(heap: Global, limit: usize) -> Result<Pairs, AllocError> {
+        let limit = LIMITS.allow(limit);
+        let pairs = Vec::with_capacity(heap, limit)?;
+        Ok(Pairs { pairs, limit })
+    }
 }

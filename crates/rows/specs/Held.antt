@@ -1,8 +1,7 @@
 -- The set of edges that rows hold.
-use Rattle.std.specs.Prelude.{vec_items}
 use Rattle.model.specs.EdgeSets.{Edges}
 use Rattle.rows.specs.declared.rows.Rows.{Rows}
 use Rattle.rows.specs.Flags.{flagged}
 
 abbrev pub rows_edges : Rows → Edges
-rows_edges r = flagged (vec_items r.words)
+rows_edges r = flagged r.words

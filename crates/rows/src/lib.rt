@@ -1,5 +1,4 @@
 #![tactic(auto)]
 
-pub mod calls;
 pub mod rows;
 mod words;

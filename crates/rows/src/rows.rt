@@ -1,17 +1,138 @@
-ghost use Rattle.std.specs.Prelude.{◌≡◌, ◌≤◌, true, length, vec_len};
-ghost use Rattle.model.specs.EdgeSets.{all_vault, ascends};
+ghost use Rattle.std.specs.Prelude.{◌≡◌, ◌<◌, ◌≤◌, true, length};
+ghost use Rattle.terms.specs.Graph.{vault_edge};
+ghost use Rattle.model.specs.EdgeSets.{◌∈◌, ◌∉◌, insert, delete, all_vault, ascends};
+ghost use Rattle.model.specs.BitRows.{Row};
+ghost use Rattle.model.proofs.Tables.{table_of, few_of};
+ghost use Rattle.stores.specs.Putting.{Sought};
 ghost use Rattle.rows.specs.Flags.{flagged};
+
+use crate::words::Words;
+use faults::store::StoreFault;
+use model::cell::cell_of;
+use std::alloc::{AllocError, Global};
+use stores::store::{LIMITS, Made, Reader, Store};
+use terms::edges::Edge;
 
 // A store that keeps a row of 256 bits for each user and each role.
 #[derive(Drop)]
 pub struct Rows {
-    pub(crate) words: Vec<u64>,
-    pub(crate) count: usize,
-    pub(crate) limit: usize,
-    ghost long: { vec_len words ≡ 512 },
-    ghost sorted: { ascends (flagged words.items) ≡ true },
-    ghost vault: { all_vault (flagged words.items) ≡ true },
-    ghost counted: { length (flagged words.items) ≡ count },
+    words: Words,
+    count: usize,
+    limit: usize,
+    ghost sorted: { ascends (flagged words) ≡ true },
+    ghost vault: { all_vault (flagged words) ≡ true },
+    ghost counted: { length (flagged words) ≡ count },
     ghost few: { count ≤ limit },
     ghost small: { limit ≤ 512 },
+}
+
+impl Rows {
+    ghost use Rattle.rows.specs.Held.{rows_edges};
+
+    // Whether the bit of an edge is set; only those of vault edges ever are.
+    fn seek(&self, edge: Edge) -> bool
+        ensures { Sought edge (rows_edges self.now) result }
+    {
+        if !edge.is_vault_edge() {
+            return false;
+        }
+        self.words.bit(cell_of(edge) as usize)
+    }
+
+    // The word of a row that has the bits of roles.
+    fn roles_of(&self, from: u16) -> u64
+        ensures { Row (rows_edges self.now) from result }
+    {
+        if from < 128 {
+            self.words.word(from as usize * 4 + 1)
+        } else {
+            0
+        }
+    }
+
+    // Sets the bit of an edge that is absent.
+    fn set(&mut self, edge: Edge)
+        requires vault { vault_edge edge ≡ true }
+        requires absent { edge ∉ rows_edges self.old }
+        requires room { self.old.count < self.old.limit }
+        ensures edges { rows_edges self.new ≡ insert edge (rows_edges self.old) }
+        ensures limit { self.new.limit ≡ self.old.limit }
+    {
+        self.words.turn(cell_of(edge) as usize);
+        self.count += 1;
+    }
+
+    // Clears the bit of an edge that is held.
+    fn clear(&mut self, edge: Edge)
+        requires vault { vault_edge edge ≡ true }
+        requires held { edge ∈ rows_edges self.old }
+        ensures edges { rows_edges self.new ≡ delete edge (rows_edges self.old) }
+        ensures limit { self.new.limit ≡ self.old.limit }
+    {
+        self.words.turn(cell_of(edge) as usize);
+        self.count -= 1;
+    }
+}
+
+impl Reader for Rows {
+    ghost use Rattle.rows.specs.Held.{rows_edges};
+
+    ghost edges = { rows_edges };
+
+    ghost table = { λ r. table_of (rows_edges r) r.count r.limit r.sorted r.vault r.counted r.few r.small };
+
+    fn holds(&self, edge: Edge) -> bool {
+        self.seek(edge)
+    }
+
+    fn count(&self) -> usize {
+        self.count
+    }
+
+    fn row(&self, from: u16) -> u64 {
+        self.roles_of(from)
+    }
+}
+
+impl Store for Rows {
+    ghost use Rattle.rows.specs.Held.{rows_edges};
+
+    ghost limit = { λ r. r.limit };
+
+    ghost bounded = { λ r. few_of (rows_edges r) r.count r.limit r.counted r.few };
+
+    fn put(&mut self, edge: Edge) -> Result<(), StoreFault> {
+        if !edge.is_vault_edge() {
+            return Err(StoreFault::NoVaultEdge);
+        }
+        if self.seek(edge) {
+            return Ok(());
+        }
+        if self.count == self.limit {
+            return Err(StoreFault::Full);
+        }
+        self.set(edge);
+        Ok(())
+    }
+
+    fn drop(&mut self, edge: Edge) {
+        if self.seek(edge) {
+            self.clear(edge);
+        }
+    }
+
+    fn limit(&self) -> usize {
+        self.limit
+    }
+}
+
+impl Made for Rows {
+    fn new(heap: Global, limit: usize) -> Result<Rows, AllocError> {
+        let words = Words::blank(heap)?;
+        Ok(Rows {
+            words,
+            count: 0,
+            limit: LIMITS.allow(limit),
+        })
+    }
 }

@@ -1,7 +1,9 @@
 -- What a store means: a set of edges and a limit.
-use Rattle.std.specs.Prelude.{◌≡◌, ℕ, Bool, true, false, cond, ◌&&◌, ◌||◌, length, Ok, Err, Result, nat_le, nat_lt}
+use Rattle.std.specs.Prelude.{◌≡◌, ℕ, Bool, true, false, if◌then◌else◌, ◌&&◌, ◌||◌, length, Ok, Err, Result, nat_lt}
 use Rattle.terms.specs.declared.edges.Edge.{Edge}
+use Rattle.terms.specs.declared.limits.Limits.{Limits}
 use Rattle.terms.specs.Graph.{vault_edge}
+use Rattle.terms.specs.Limits.{limit_of}
 use Rattle.model.specs.EdgeSets.{Edges, has, insert, delete}
 use Rattle.faults.specs.declared.store.StoreFault.{StoreFault}
 use Rattle.faults.specs.declared.store.StoreFault.TheVariants.{NoVaultEdge, Full}
@@ -12,15 +14,19 @@ has_room limit s e = has s e || nat_lt (length s) limit
 
 -- the answer to an edge that is put: the first question that is answered no
 abbrev pub put_answer : ℕ → Edges → Edge → Result (Unit {0}) StoreFault
-put_answer limit s e = cond (vault_edge e) (cond (has_room limit s e) (Ok tt) (Err Full)) (Err NoVaultEdge)
+put_answer limit s e = if vault_edge e then (if has_room limit s e then Ok tt else Err Full) else Err NoVaultEdge
 
 -- and the set after it
 abbrev pub put : ℕ → Edges → Edge → Edges
-put limit s e = cond (vault_edge e && has_room limit s e) (insert e s) s
+put limit s e = if vault_edge e && has_room limit s e then insert e s else s
 
--- the limit of a store that was made with n: 1 to 512, and any other number gives a store that takes nothing
+-- the limits that a store may be made with
+abbrev pub store_limits : Limits
+store_limits = record { least = 1; most = 512 }
+
+-- the limit of a store that was made with n: any other number gives a store that takes nothing
 abbrev pub store_limit : ℕ → ℕ
-store_limit n = cond (nat_le 1 n && nat_le n 512) n 0
+store_limit n = limit_of store_limits n
 
 -- what a store finds out of an edge: that it is held, so that putting it alters nothing, or absent, so that dropping it does not
 abbrev pub Sought : Edge → Edges → Bool → Type 0

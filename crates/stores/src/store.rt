@@ -1,10 +1,18 @@
-ghost use Rattle.std.specs.Prelude.{◌≡◌, ℕ, ◌≤◌, length};
+ghost use Rattle.std.specs.Prelude.{◌≡◌, ℕ, ◌≤◌, [], length, IfOk};
 ghost use Rattle.model.specs.EdgeSets.{Edges, Table, has, delete};
 ghost use Rattle.model.specs.BitRows.{Row};
 ghost use Rattle.stores.specs.Putting.{put_answer, put, store_limit};
 
 use faults::store::StoreFault;
+use std::alloc::{AllocError, Global};
 use terms::edges::Edge;
+use terms::limits::Limits;
+
+// The limits that a store may be made with.
+pub const LIMITS: Limits = Limits {
+    least: 1,
+    most: 512,
+};
 
 // A reader means a set of at most 512 vault edges, and tells whether it holds one, and how many.
 pub trait Reader {
@@ -57,14 +65,8 @@ pub trait Store: Reader {
     ghost bounded: { (s : Self) → length (Self.Reader.edges s) ≤ limit s };
 }
 
-// The limit of a store that is made with `wanted`.
-pub fn allowed(wanted: usize) -> usize
-    ensures value { result ≡ store_limit wanted }
-    ensures bound { result ≤ 512 }
-{
-    if 1 <= wanted && wanted <= 512 {
-        wanted
-    } else {
-        0
-    }
+// A store that can be made: empty, for `limit` edges, 1 to 512; with any other number its limit is 0.
+pub trait Made: Store {
+    fn new(heap: Global, limit: usize) -> Result<Self, AllocError>
+        ensures { IfOk result (λ s. (Self.Reader.edges s ≡ []) × (Self.Store.limit s ≡ store_limit limit)) };
 }

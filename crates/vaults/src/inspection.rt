@@ -2,21 +2,23 @@ ghost use Rattle.std.specs.Prelude.{◌≡◌, MatchBool, MatchResult};
 ghost use Rattle.vaults.specs.Sites.{site_at};
 ghost use Rattle.vaults.specs.Fitness.{FitSite, Fit};
 
-use crate::bank::Bank;
+use crate::bank::{Bank, Load};
 use faults::bank::BankFault;
+use links::link;
+use stores::store;
 
 // Whether a vault is empty and has limits that one may have.
 fn is_fit<B: Bank>(bank: &B, vault: usize) -> bool
     ensures { MatchBool result (FitSite (site_at (B.sites bank.now) vault)) (FitSite (site_at (B.sites bank.now) vault) → ⊥) }
 {
-    let load = bank.load(vault);
-    if load.waiting > 0 || load.held > 0 {
-        return false;
-    }
-    1 <= load.store_limit
-        && load.store_limit <= 512
-        && 2 <= load.link_limit
-        && load.link_limit <= 1024
+    let Load {
+        waiting,
+        link_limit,
+        held,
+        store_limit,
+    } = bank.load(vault);
+    let empty = waiting == 0 && held == 0;
+    empty && store::LIMITS.has(store_limit) && link::LIMITS.has(link_limit)
 }
 
 // Whether an installation can work with a bank: 1 to 8 vaults, store limits 1 to 512, link limits 2
@@ -24,13 +26,10 @@ fn is_fit<B: Bank>(bank: &B, vault: usize) -> bool
 pub fn inspect<B: Bank>(bank: &B) -> Result<(), BankFault>
     ensures { MatchResult result (λ _. Fit (B.sites bank.now)) (λ f. (f ≡ BankFault.Unfit) × (Fit (B.sites bank.now) → ⊥)) }
 {
-    if !bank.has(0) || bank.has(8) {
-        return Err(BankFault::Unfit);
+    let some = bank.has(0) && !bank.has(8);
+    if some && (0..8).all(|vault| !bank.has(vault) || is_fit(bank, vault)) {
+        Ok(())
+    } else {
+        Err(BankFault::Unfit)
     }
-    for vault in 0..8 {
-        if bank.has(vault) && !is_fit(bank, vault) {
-            return Err(BankFault::Unfit);
-        }
-    }
-    Ok(())
 }

@@ -1,9 +1,8 @@
-use Rattle.std.proofs.Common.{vec_items}
 use Rattle.rows.proofs.Flagged.{role_flags, no_role_flags}
 use Rattle.rows.proofs.rows.Rows.roles_of.Goals as goal
 
 pub returns-then-from-lt128 : goal.returns-then-from-lt128
-returns-then-from-lt128 c = role_flags (vec_items c.args.self.now.words) c.args.from _ c.if-from-lt128.true c.read_word.ensures
+returns-then-from-lt128 c = role_flags c.args.self.now.words c.args.from _ c.if-from-lt128.true c.word.ensures
 
 pub returns-else-from-lt128 : goal.returns-else-from-lt128
-returns-else-from-lt128 c = no_role_flags (vec_items c.args.self.now.words) c.args.from c.args.self.now.vault c.if-from-lt128.false
+returns-else-from-lt128 c = no_role_flags c.args.self.now.words c.args.from c.args.self.now.vault c.if-from-lt128.false

@@ -1,4 +1,4 @@
-use Rattle.std.proofs.Common.{vec_items, refl, arith}
+use Rattle.std.proofs.Common.{refl, arith}
 use Rattle.model.specs.EdgeSets.{insert}
 use Rattle.model.proofs.Members.{length_insert, vault_insert}
 use Rattle.rows.specs.Flags.{flagged}
@@ -8,13 +8,12 @@ use Rattle.rows.proofs.rows.Rows.set.Goals as goal
 pub invariant_of-self : goal.invariant_of-self
 invariant_of-self c =
     let s = c.args.self.now in
-    let is = set_flag (vec_items s.words) (vec_items c.turn_bit.new.words) c.args.edge c.bit_of.result c.requires.vault
-    c.bit_of.ensures c.turn_bit.ensures.here c.turn_bit.ensures.others c.requires.absent in
-    let t = flags_are (vec_items c.turn_bit.new.words) (insert c.args.edge (flagged (vec_items s.words))) is
-    (vault_insert c.args.edge (flagged (vec_items s.words)) c.requires.vault s.vault) in
-    let more = length_insert c.args.edge (flagged (vec_items s.words)) c.requires.absent in
+    let is = set_flag s.words c.turn.new.self c.args.edge c.cell_of.result c.requires.vault
+    c.cell_of.ensures c.turn.ensures.here c.turn.ensures.others c.requires.absent in
+    let t = flags_are c.turn.new.self (insert c.args.edge (flagged s.words)) is
+    (vault_insert c.args.edge (flagged s.words) c.requires.vault s.vault) in
+    let more = length_insert c.args.edge (flagged s.words) c.requires.absent in
     record {
-      long = c.turn_bit.ensures.long;
       sorted = t.0;
       vault = t.1;
       counted = omega (arith, t.2, more, s.counted);
@@ -24,7 +23,7 @@ invariant_of-self c =
 
 pub returns : goal.returns
 returns c = record {
-  edges = set_flag (vec_items c.args.self.now.words) (vec_items c.turn_bit.new.words) c.args.edge c.bit_of.result c.requires.vault
-      c.bit_of.ensures c.turn_bit.ensures.here c.turn_bit.ensures.others c.requires.absent;
+  edges = set_flag c.args.self.now.words c.turn.new.self c.args.edge c.cell_of.result c.requires.vault
+      c.cell_of.ensures c.turn.ensures.here c.turn.ensures.others c.requires.absent;
   limit = refl;
 }
