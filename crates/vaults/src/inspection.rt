@@ -1,4 +1,4 @@
-ghost use Rattle.std.specs.Prelude.{◌≡◌, MatchBool, MatchResult};
+ghost use Rattle.std.specs.Prelude.{◌≡◌, ℕ, ◌<◌, length, MatchBool, MatchResult};
 ghost use Rattle.vaults.specs.Sites.{site_at};
 ghost use Rattle.vaults.specs.Fitness.{FitSite, Fit};
 
@@ -21,13 +21,19 @@ fn is_fit<B: Bank>(bank: &B, vault: usize) -> bool
     empty && store::LIMITS.has(store_limit) && link::LIMITS.has(link_limit)
 }
 
+// Whether each of the first eight vaults is fit that are there.
+fn are_fit<B: Bank>(bank: &B) -> bool
+    ensures { MatchBool result ((v : ℕ) → v < 8 → v < length (B.sites bank.now) → FitSite (site_at (B.sites bank.now) v)) (Fit (B.sites bank.now) → ⊥) }
+{
+    (0..8).all(|vault| !bank.has(vault) || is_fit(bank, vault))
+}
+
 // Whether an installation can work with a bank: 1 to 8 vaults, store limits 1 to 512, link limits 2
 // to 1024, all empty. If not, it is refused with 19.
 pub fn inspect<B: Bank>(bank: &B) -> Result<(), BankFault>
     ensures { MatchResult result (λ _. Fit (B.sites bank.now)) (λ f. (f ≡ BankFault.Unfit) × (Fit (B.sites bank.now) → ⊥)) }
 {
-    let some = bank.has(0) && !bank.has(8);
-    if some && (0..8).all(|vault| !bank.has(vault) || is_fit(bank, vault)) {
+    if bank.has(0) && !bank.has(8) && are_fit(bank) {
         Ok(())
     } else {
         Err(BankFault::Unfit)
