@@ -1,0 +1,4 @@
+#![tactic(auto)]
+
+pub mod delivery;
+pub mod edges;
