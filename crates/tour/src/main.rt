@@ -3,27 +3,17 @@
 #![tactic(auto)]
 
 use faults::bank::BankFault;
-use links::link::Link;
-use links::queue::Queue;
-use memories::makes::{packed, ring};
-use memories::slots::Slots;
-use memories::strip::Strip;
+use faults::refusal::Refusal;
+use memories::makes::{Packed, Ring};
 use pairs::pairs::Pairs;
 use rows::rows::Rows;
-use std::alloc::{AllocError, Global};
+use samples::delivery::deliver;
+use samples::edges::{CHAIN, GRANT, MEMBER};
 use std::io;
-use stores::store::{Reader, Store};
 use terms::edges::{Change, Edge};
 use vaults::bank::Bank;
 use vaults::inspection::inspect;
 use vaults::vault::Vault;
-
-// The role chain 64 to 65 to the privilege 128, and the user 2 in role 64.
-const CHAIN: Edge = Edge { from: 64, to: 65 };
-
-const GRANT: Edge = Edge { from: 65, to: 128 };
-
-const MEMBER: Edge = Edge { from: 2, to: 64 };
 
 // An answer as its number: 0, or that of the refusal.
 fn number(answer: Result<(), BankFault>) -> u8 {
@@ -33,38 +23,12 @@ fn number(answer: Result<(), BankFault>) -> u8 {
     }
 }
 
-// Performs the message that waits first at a vault on its table, and strikes it.
-fn deliver<B: Bank>(bank: &mut B, vault: usize) -> Result<(), BankFault> {
-    match bank.head(vault) {
-        Some(Change::Add(edge)) => bank.put(vault, edge)?,
-        Some(Change::Remove(edge)) => bank.drop(vault, edge)?,
-        None => return Ok(()),
-    }
-    bank.strike(vault)
-}
-
-fn show_edge(rt: &HostRuntime, edge: Edge) -> io::Result<()> {
-    let from = edge.from;
-    let to = edge.to;
-    print!(rt; "{from} {to}")
-}
-
-fn show_change(rt: &HostRuntime, change: Change) -> io::Result<()> {
-    match change {
-        Change::Add(_) => print!(rt; "+")?,
-        Change::Remove(_) => print!(rt; "-")?,
-    }
-    show_edge(rt, change.edge())
-}
-
 fn show_waiting<B: Bank>(rt: &HostRuntime, bank: &B, vault: usize) -> io::Result<()> {
     let waiting = bank.load(vault).waiting;
-    print!(rt; "{waiting} waiting")?;
-    if let Some(first) = bank.head(vault) {
-        print!(rt; ", first ")?;
-        show_change(rt, first)?;
+    match bank.head(vault) {
+        Some(first) => println!(rt; "{waiting} waiting, first {first}"),
+        None => println!(rt; "{waiting} waiting"),
     }
-    println!(rt; "")
 }
 
 fn show_table<B: Bank>(rt: &HostRuntime, bank: &B, vault: usize) -> io::Result<()> {
@@ -73,8 +37,7 @@ fn show_table<B: Bank>(rt: &HostRuntime, bank: &B, vault: usize) -> io::Result<(
         for to in 64u16..256 {
             let edge = Edge { from, to };
             if bank.holds(vault, edge) {
-                show_edge(rt, edge)?;
-                print!(rt; ", ")?;
+                print!(rt; "{edge}, ")?;
             }
         }
     }
@@ -84,9 +47,7 @@ fn show_table<B: Bank>(rt: &HostRuntime, bank: &B, vault: usize) -> io::Result<(
 
 fn send<B: Bank>(rt: &HostRuntime, bank: &mut B, vault: usize, message: Change) -> io::Result<()> {
     let answer = number(bank.send(vault, message));
-    print!(rt; "vault {vault}: send ")?;
-    show_change(rt, message)?;
-    print!(rt; " answers {answer}; ")?;
+    print!(rt; "vault {vault}: send {message} answers {answer}; ")?;
     show_waiting(rt, bank, vault)
 }
 
@@ -99,23 +60,18 @@ fn deliver_one<B: Bank>(rt: &HostRuntime, bank: &mut B, vault: usize) -> io::Res
 
 fn put<B: Bank>(rt: &HostRuntime, bank: &mut B, vault: usize, edge: Edge) -> io::Result<()> {
     let answer = number(bank.put(vault, edge));
-    print!(rt; "vault {vault}: put ")?;
-    show_edge(rt, edge)?;
-    println!(rt; " answers {answer}")?;
+    println!(rt; "vault {vault}: put {edge} answers {answer}")?;
     show_table(rt, bank, vault)
 }
 
 // Whether two vaults hold the same edges.
 fn same_tables<B: Bank>(bank: &B, one: usize, other: usize) -> bool {
-    for from in 0u16..128 {
-        for to in 64u16..256 {
+    (0u16..128).all(|from| {
+        (64u16..256).all(|to| {
             let edge = Edge { from, to };
-            if bank.holds(one, edge) != bank.holds(other, edge) {
-                return false;
-            }
-        }
-    }
-    true
+            bank.holds(one, edge) == bank.holds(other, edge)
+        })
+    })
 }
 
 // A role chain and its first user reach both vaults, in another order at each; vault 0 is delivered
@@ -160,24 +116,6 @@ fn refusals<B: Bank>(rt: &HostRuntime, bank: &mut B) -> io::Result<()> {
     send(rt, bank, 1, Change::Add(CHAIN))
 }
 
-fn ringed(heap: Global) -> Result<Vault<Queue<Slots>, Rows>, AllocError> {
-    let link = ring(heap, 1024)?;
-    let store = Rows::new(heap, 512)?;
-    Ok(Vault { link, store })
-}
-
-fn stripped(heap: Global) -> Result<Vault<Queue<Strip>, Pairs>, AllocError> {
-    let link = packed(heap, 1024)?;
-    let store = Pairs::new(heap, 512)?;
-    Ok(Vault { link, store })
-}
-
-fn tight(heap: Global) -> Result<Vault<Queue<Slots>, Pairs>, AllocError> {
-    let link = ring(heap, 2)?;
-    let store = Pairs::new(heap, 1)?;
-    Ok(Vault { link, store })
-}
-
 // Both stories over a bank of two vaults.
 fn carry<B: Bank>(rt: &HostRuntime, bank: &mut B) -> io::Result<()> {
     println!(rt;
@@ -190,10 +128,11 @@ fn carry<B: Bank>(rt: &HostRuntime, bank: &mut B) -> io::Result<()> {
 }
 
 fn walk(rt: &HostRuntime) -> anyhow::Result<()> {
-    let first = ringed(rt.alloc())?;
-    let second = stripped(rt.alloc())?;
+    let heap = rt.alloc();
+    let first = Vault::<Ring, Rows>::made(heap, 1024, 512)?;
+    let second = Vault::<Packed, Pairs>::made(heap, 1024, 512)?;
     carry(rt, &mut (first, (second, ())))?;
-    let only = tight(rt.alloc())?;
+    let only = Vault::<Ring, Pairs>::made(heap, 2, 1)?;
     refusals(rt, &mut (only, ()))?;
     Ok(())
 }

@@ -17,13 +17,7 @@ pub fn nth_edge(i: u16) -> Edge
 }
 
 fn count_vault_edges(pairs: &[Edge]) -> usize {
-    let mut n = 0usize;
-    for e in pairs {
-        if e.is_vault_edge() {
-            n = n.saturating_add(1);
-        }
-    }
-    n
+    pairs.iter().filter(|edge| edge.is_vault_edge()).count()
 }
 
 // The corners of what a vault edge is, and what is just outside.

@@ -5,6 +5,8 @@
 #[cfg(test)]
 mod banks_run;
 #[cfg(test)]
+mod claim;
+#[cfg(test)]
 mod edges;
 #[cfg(test)]
 mod images_run;

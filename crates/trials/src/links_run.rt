@@ -1,7 +1,11 @@
+use crate::claim::claim;
 use crate::edges::{nth_edge, pair};
 use faults::link::LinkFault;
 use links::link::Link;
-use memories::makes::{packed, ring};
+use links::memory::Blank;
+use links::queue::Queue;
+use memories::slots::Slots;
+use memories::strip::Strip;
 use std::test::Fail;
 use terms::edges::Change;
 
@@ -14,72 +18,71 @@ fn message(i: u16) -> Change {
     }
 }
 
-// Strikes `limit` messages, and says whether they were the first ones in their order.
-fn empties<L: Link>(link: &mut L, limit: u16) -> bool {
-    let mut ok = true;
+// Strikes `limit` messages, which are the first ones in their order.
+fn empties<L: Link>(link: &mut L, limit: u16) -> Result<(), Fail> {
     for i in 0..limit {
-        ok &= link.head() == Some(message(i));
+        claim(link.head() == Some(message(i)), "the messages come in their order")?;
         link.strike();
     }
-    ok
+    Ok(())
 }
 
 // A link takes as many messages as its limit, refuses the next, and gives them back in their order.
-fn fills<L: Link>(link: &mut L, limit: u16) -> bool {
-    let mut ok = link.limit() == limit as usize;
+fn fills<L: Link>(link: &mut L, limit: u16) -> Result<(), Fail> {
+    claim(link.limit() == usize::from(limit), "the limit is the wanted one")?;
     for i in 0..limit {
-        ok &= link.send(message(i)) == Ok(());
+        claim(link.send(message(i)) == Ok(()), "a message is sent")?;
     }
-    ok &= link.send(message(limit)) == Err(LinkFault::Full);
-    ok &= link.count() == limit as usize;
-    ok &= empties(link, limit);
+    claim(link.send(message(limit)) == Err(LinkFault::Full), "one message too many is refused")?;
+    claim(link.count() == usize::from(limit), "as many wait as may")?;
+    empties(link, limit)?;
     link.strike();
-    ok && link.count() == 0 && link.head() == None
+    claim(link.count() == 0 && link.head() == None, "none waits at the end")?;
+    Ok(())
 }
 
 // Two messages always wait while a hundred go by, so that the places come round many times.
-fn goes_round<L: Link>(link: &mut L) -> bool {
-    let mut ok = link.send(message(0)) == Ok(());
+fn goes_round<L: Link>(link: &mut L) -> Result<(), Fail> {
+    claim(link.send(message(0)) == Ok(()), "a first message is sent")?;
     for i in 1u16..100 {
-        ok &= link.send(message(i)) == Ok(());
-        ok &= link.head() == Some(message(i - 1));
+        claim(link.send(message(i)) == Ok(()), "another is sent")?;
+        claim(link.head() == Some(message(i - 1)), "the oldest comes first")?;
         link.strike();
     }
-    ok && link.count() == 1 && link.head() == Some(message(99))
+    claim(link.count() == 1 && link.head() == Some(message(99)), "one is left")?;
+    Ok(())
 }
 
 // What is no vault edge is refused first, also by a full link; nothing is altered.
-fn refuses<L: Link>(link: &mut L) -> bool {
-    let mut ok = link.send(Change::Add(pair(0, 128))) == Err(LinkFault::NoVaultEdge);
-    ok &= link.send(message(0)) == Ok(());
-    ok &= link.send(message(1)) == Ok(());
-    ok &= link.send(Change::Remove(pair(64, 256))) == Err(LinkFault::NoVaultEdge);
-    ok &= link.send(message(2)) == Err(LinkFault::Full);
-    ok && link.count() == 2 && link.head() == Some(message(0))
+fn refuses<L: Link>(link: &mut L) -> Result<(), Fail> {
+    claim(link.send(Change::Add(pair(0, 128))) == Err(LinkFault::NoVaultEdge), "what is no vault edge is refused")?;
+    claim(link.send(message(0)) == Ok(()), "a message is sent")?;
+    claim(link.send(message(1)) == Ok(()), "a second is sent")?;
+    claim(link.send(Change::Remove(pair(64, 256))) == Err(LinkFault::NoVaultEdge), "what is no vault edge is refused first")?;
+    claim(link.send(message(2)) == Err(LinkFault::Full), "a full link refuses")?;
+    claim(link.count() == 2 && link.head() == Some(message(0)), "nothing was altered")?;
+    Ok(())
+}
+
+// One make of link, from its smallest limit to its largest.
+fn each_way<M: Blank + Drop>(rt: &HostRuntime) -> Result<(), Fail> {
+    let heap = rt.alloc();
+    fills(&mut Queue::<M>::made(heap, 2)?, 2)?;
+    fills(&mut Queue::<M>::made(heap, 1024)?, 1024)?;
+    goes_round(&mut Queue::<M>::made(heap, 3)?)?;
+    refuses(&mut Queue::<M>::made(heap, 2)?)?;
+    for wrong in [0usize, 1, 1025, 18446744073709551615] {
+        claim(Queue::<M>::made(heap, wrong)?.limit() == 0, "a wrong limit is 0")?;
+    }
+    Ok(())
 }
 
 #[test]
 fn rings(rt: HostRuntime) -> Result<(), Fail> {
-    let heap = rt.alloc();
-    assert!(rt; fills(&mut ring(heap, 2)?, 2));
-    assert!(rt; fills(&mut ring(heap, 1024)?, 1024));
-    assert!(rt; goes_round(&mut ring(heap, 3)?));
-    assert!(rt; refuses(&mut ring(heap, 2)?));
-    for wrong in [0usize, 1, 1025, 18446744073709551615] {
-        assert_eq!(rt; ring(heap, wrong)?.limit(), 0);
-    }
-    Ok(())
+    each_way::<Slots>(&rt)
 }
 
 #[test]
 fn strips(rt: HostRuntime) -> Result<(), Fail> {
-    let heap = rt.alloc();
-    assert!(rt; fills(&mut packed(heap, 2)?, 2));
-    assert!(rt; fills(&mut packed(heap, 1024)?, 1024));
-    assert!(rt; goes_round(&mut packed(heap, 3)?));
-    assert!(rt; refuses(&mut packed(heap, 2)?));
-    for wrong in [0usize, 1, 1025, 18446744073709551615] {
-        assert_eq!(rt; packed(heap, wrong)?.limit(), 0);
-    }
-    Ok(())
+    each_way::<Strip>(&rt)
 }

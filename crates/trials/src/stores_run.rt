@@ -1,49 +1,49 @@
+use crate::claim::claim;
 use crate::edges::{nth_edge, pair};
 use faults::store::StoreFault;
 use pairs::pairs::Pairs;
 use rows::rows::Rows;
 use std::test::Fail;
-use stores::store::{Reader, Store};
+use stores::store::{Made, Reader, Store};
 
-// Puts the first `n` edges, and says whether each was taken and is held.
-fn takes<S: Store>(store: &mut S, n: u16) -> bool {
-    let mut ok = true;
+// Puts the first `n` edges: each is taken and is held.
+fn takes<S: Store>(store: &mut S, n: u16) -> Result<(), Fail> {
     for i in 0..n {
-        ok &= store.put(nth_edge(i)) == Ok(());
-        ok &= store.holds(nth_edge(i));
+        claim(store.put(nth_edge(i)) == Ok(()), "an edge is put")?;
+        claim(store.holds(nth_edge(i)), "and is held then")?;
     }
-    ok
+    Ok(())
 }
 
 // A store takes as many edges as its limit and refuses the next, but not one that it holds; what is
 // dropped makes room again.
-fn fills<S: Store>(store: &mut S, limit: u16) -> bool {
-    let mut ok = store.limit() == limit as usize;
-    ok &= takes(store, limit);
-    ok &= store.put(nth_edge(limit)) == Err(StoreFault::Full);
-    ok &= !store.holds(nth_edge(limit));
-    ok &= store.count() == limit as usize;
-    ok &= takes(store, limit);
+fn fills<S: Store>(store: &mut S, limit: u16) -> Result<(), Fail> {
+    claim(store.limit() == usize::from(limit), "the limit is the wanted one")?;
+    takes(store, limit)?;
+    claim(store.put(nth_edge(limit)) == Err(StoreFault::Full), "one edge too many is refused")?;
+    claim(!store.holds(nth_edge(limit)), "and is not held")?;
+    claim(store.count() == usize::from(limit), "as many are held as may be")?;
+    takes(store, limit)?;
     store.drop(nth_edge(0));
-    ok &= !store.holds(nth_edge(0));
-    ok &= store.put(nth_edge(limit)) == Ok(());
-    ok && store.count() == limit as usize
+    claim(!store.holds(nth_edge(0)), "what was dropped is gone")?;
+    claim(store.put(nth_edge(limit)) == Ok(()), "it made room")?;
+    claim(store.count() == usize::from(limit), "as many are held as before")?;
+    Ok(())
 }
 
 // What is no vault edge is refused and never held.
-fn refuses<S: Store>(store: &mut S) -> bool {
-    let mut ok = true;
+fn refuses<S: Store>(store: &mut S) -> Result<(), Fail> {
     for e in [pair(64, 63), pair(0, 128), pair(128, 64), pair(64, 256)] {
-        ok &= store.put(e) == Err(StoreFault::NoVaultEdge);
-        ok &= !store.holds(e);
+        claim(store.put(e) == Err(StoreFault::NoVaultEdge), "what is no vault edge is refused")?;
+        claim(!store.holds(e), "and is never held")?;
         store.drop(e);
     }
-    ok && store.count() == 0
+    claim(store.count() == 0, "nothing is held")?;
+    Ok(())
 }
 
 // The corners of the table, put out of order; dropping one edge leaves its neighbours.
-fn corners<S: Store>(store: &mut S) -> bool {
-    let mut ok = true;
+fn corners<S: Store>(store: &mut S) -> Result<(), Fail> {
     for e in [
         pair(127, 255),
         pair(0, 64),
@@ -51,39 +51,37 @@ fn corners<S: Store>(store: &mut S) -> bool {
         pair(64, 64),
         pair(127, 127),
     ] {
-        ok &= store.put(e) == Ok(());
+        claim(store.put(e) == Ok(()), "a corner is put")?;
     }
     store.drop(pair(127, 254));
     store.drop(pair(127, 127));
-    ok &= !store.holds(pair(127, 127));
+    claim(!store.holds(pair(127, 127)), "what was dropped is gone")?;
     for e in [pair(127, 255), pair(0, 64), pair(63, 127), pair(64, 64)] {
-        ok &= store.holds(e);
+        claim(store.holds(e), "what was not dropped is held")?;
     }
-    ok && store.count() == 4
+    claim(store.count() == 4, "four corners are held")?;
+    Ok(())
+}
+
+// One make of store, from its smallest table to its largest.
+fn each_way<S: Made + Drop>(rt: &HostRuntime) -> Result<(), Fail> {
+    let heap = rt.alloc();
+    fills(&mut S::new(heap, 1)?, 1)?;
+    fills(&mut S::new(heap, 512)?, 512)?;
+    refuses(&mut S::new(heap, 1)?)?;
+    corners(&mut S::new(heap, 512)?)?;
+    for wrong in [0usize, 513, 18446744073709551615] {
+        claim(S::new(heap, wrong)?.limit() == 0, "a wrong limit is 0")?;
+    }
+    Ok(())
 }
 
 #[test]
 fn rows(rt: HostRuntime) -> Result<(), Fail> {
-    let heap = rt.alloc();
-    assert!(rt; fills(&mut Rows::new(heap, 1)?, 1));
-    assert!(rt; fills(&mut Rows::new(heap, 512)?, 512));
-    assert!(rt; refuses(&mut Rows::new(heap, 1)?));
-    assert!(rt; corners(&mut Rows::new(heap, 512)?));
-    for wrong in [0usize, 513, 18446744073709551615] {
-        assert_eq!(rt; Rows::new(heap, wrong)?.limit(), 0);
-    }
-    Ok(())
+    each_way::<Rows>(&rt)
 }
 
 #[test]
 fn pairs(rt: HostRuntime) -> Result<(), Fail> {
-    let heap = rt.alloc();
-    assert!(rt; fills(&mut Pairs::new(heap, 1)?, 1));
-    assert!(rt; fills(&mut Pairs::new(heap, 512)?, 512));
-    assert!(rt; refuses(&mut Pairs::new(heap, 1)?));
-    assert!(rt; corners(&mut Pairs::new(heap, 512)?));
-    for wrong in [0usize, 513, 18446744073709551615] {
-        assert_eq!(rt; Pairs::new(heap, wrong)?.limit(), 0);
-    }
-    Ok(())
+    each_way::<Pairs>(&rt)
 }
