@@ -11,6 +11,7 @@ ghost use Rattle.rows.specs.Held.{rows_edges};
 use crate::rows::Rows;
 use crate::words::{read_bit, read_word, turn_bit};
 use faults::store::StoreFault;
+use model::roles::Roles;
 use std::alloc::{AllocError, Global};
 use stores::store::{Reader, Store, allowed};
 use terms::edges::Edge;
@@ -53,14 +54,16 @@ impl Rows {
         read_bit(&self.words, bit_of(edge))
     }
 
-    // The word of a row that has the bits of roles.
-    fn roles_of(&self, from: u16) -> u64
-        ensures { Row (rows_edges self.now) from result }
+    // The roles of a row: the second of its words has their bits.
+    fn roles_of(&self, from: u16) -> Roles
+        ensures { Row (rows_edges self.now) from result.word }
     {
         if from < 128 {
-            read_word(&self.words, from as usize * 4 + 1)
+            Roles {
+                word: read_word(&self.words, from as usize * 4 + 1),
+            }
         } else {
-            0
+            Roles::none()
         }
     }
 
@@ -101,7 +104,7 @@ impl Reader for Rows {
         self.count
     }
 
-    fn row(&self, from: u16) -> u64 {
+    fn row(&self, from: u16) -> Roles {
         self.roles_of(from)
     }
 }

@@ -4,6 +4,7 @@ ghost use Rattle.model.specs.BitRows.{Row};
 ghost use Rattle.stores.specs.Putting.{put_answer, put, store_limit};
 
 use faults::store::StoreFault;
+use model::roles::Roles;
 use terms::edges::Edge;
 
 // A reader means a set of at most 512 vault edges, and tells whether it holds one, and how many.
@@ -20,15 +21,15 @@ pub trait Reader {
     fn count(&self) -> usize
         ensures { result ≡ length (edges self.now) };
 
-    // The roles that a vertex has an edge to, in one word: bit k is for role 64 + k. Each make of
-    // reader may answer in a faster way than this.
-    fn row(&self, from: u16) -> u64
-        ensures { Row (edges self.now) from result }
+    // The roles that a vertex has an edge to. Each make of reader may answer in a faster way than
+    // this.
+    fn row(&self, from: u16) -> Roles
+        ensures { Row (edges self.now) from result.word }
     {
-        let mut row = 0;
-        for k in 0..64u16 {
-            if self.holds(Edge { from, to: 64 + k }) {
-                row |= 1u64 << k;
+        let mut row = Roles::none();
+        for role in 64..128u16 {
+            if self.holds(Edge { from, to: role }) {
+                row = row.with(role);
             }
         }
         row

@@ -6,4 +6,4 @@ pub returns-then-from-lt128 : goal.returns-then-from-lt128
 returns-then-from-lt128 c = role_flags (vec_items c.args.self.now.words) c.args.from _ c.if-from-lt128.true c.read_word.ensures
 
 pub returns-else-from-lt128 : goal.returns-else-from-lt128
-returns-else-from-lt128 c = no_role_flags (vec_items c.args.self.now.words) c.args.from c.args.self.now.vault c.if-from-lt128.false
+returns-else-from-lt128 c = rw c.none.ensures (no_role_flags (vec_items c.args.self.now.words) c.args.from c.args.self.now.vault c.if-from-lt128.false)
