@@ -11,10 +11,6 @@ use terms::edges::Edge;
 pub trait Reader {
     ghost edges: { Self → Edges };
 
-    // That the set is such a set. It is a ghost member, and not a law, so that a reader may borrow
-    // what it reads.
-    ghost table: { (r : Self) → Table (edges r) };
-
     fn holds(&self, edge: Edge) -> bool
         ensures { result ≡ has (edges self.now) edge };
 
@@ -34,6 +30,9 @@ pub trait Reader {
         }
         row
     }
+
+    // The set is such a set.
+    ghost table: { (r : Self) → Table (edges r) };
 }
 
 // A store is a vault's table: a reader that can also put and drop, with a limit that never moves.

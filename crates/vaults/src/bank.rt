@@ -22,8 +22,6 @@ pub struct Load {
 pub trait Bank {
     ghost sites: { Self → List Site };
 
-    ghost tables: { (b : Self) → AllTables (sites b) };
-
     fn has(&self, vault: usize) -> bool
         ensures { result ≡ nat_lt vault (length (sites self.now)) };
 
@@ -52,6 +50,8 @@ pub trait Bank {
     // How much waits and is held at a vault, and how much may.
     fn load(&self, vault: usize) -> Load
         ensures { result ≡ load_of (site_at (sites self.now) vault) };
+
+    ghost tables: { (b : Self) → AllTables (sites b) };
 
     ghost bounded: { (b : Self) → AllBounded (sites b) };
 }
