@@ -89,9 +89,9 @@ module _ (a b : ℕ) (g : a < 2 ^ 64) (h : b < 2 ^ 64) (q : bit_and a (bit_not w
   pub lowest_beyond : (x : ℕ) → x < 64 + count_trailing_zeros 64 (bit_and a (bit_not w64 b)) → is_beyond a b x ≡ false
   lowest_beyond = least.1
 
--- a set and one more role
-pub bit_with : (w v j : ℕ) → is_role v ≡ true → bit (bit_or w (role_word v)) j ≡ (bit w j || eqb (64 + j) v)
-bit_with w v j r = bit_of_or w (role_word v) j ∙ ap (λ (b : Bool). bit w j || b) (ap (λ (n : ℕ). bit n j) one ∙ bit_one (v - 64) j ∙ moved)
+-- one role
+pub bit_of_role : (v j : ℕ) → is_role v ≡ true → bit (role_word v) j ≡ eqb (64 + j) v
+bit_of_role v j r = ap (λ (n : ℕ). bit n j) one ∙ bit_one (v - 64) j ∙ moved
   where
     one : role_word v ≡ 2 ^ (v - 64)
     one = rw r
@@ -100,8 +100,14 @@ bit_with w v j r = bit_of_or w (role_word v) j ∙ ap (λ (b : Bool). bit w j ||
     low = grind (arith, nat_tests)
 
     moved : eqb j (v - 64) ≡ eqb (64 + j) v
-    moved = ⊎_elim (λ (e : 64 + j ≡ v). eq-eqb j (v - 64) (omega (arith, low)) ∙ sym (eq-eqb (64 + j) v e))
-        (λ (n : 64 + j ≢ v). ne_eqb j (v - 64) (λ e. n (omega (arith, low))) ∙ sym (ne_eqb (64 + j) v n)) (cases_eq (64 + j) v)
+    moved = ⊎_elim
+        (λ (e : 64 + j ≡ v). eq-eqb j (v - 64) (omega (arith, low)) ∙ sym (eq-eqb (64 + j) v e))
+        (λ (n : 64 + j ≢ v). ne_eqb j (v - 64) (λ e. n (omega (arith, low))) ∙ sym (ne_eqb (64 + j) v n))
+        (cases_eq (64 + j) v)
+
+-- a set and one more role
+pub bit_with : (w v j : ℕ) → is_role v ≡ true → bit (bit_or w (role_word v)) j ≡ (bit w j || eqb (64 + j) v)
+bit_with w v j r = bit_of_or w (role_word v) j ∙ ap (λ (b : Bool). bit w j || b) (bit_of_role v j r)
 
 -- a row that is gathered role by role: those below v are in it
 pub record Gathered (s : Edges) (from v w : ℕ) : Type 0 where
