@@ -1,20 +1,38 @@
 ghost use Rattle.std.specs.Prelude.{◌≡◌, true};
 ghost use Rattle.model.specs.EdgeSets.{Edges, all_edges, has};
 ghost use Rattle.model.specs.BitRows.{Row};
+ghost use Rattle.model.proofs.Members.{vault_edges};
 
+use model::roles::Roles;
+use stores::store::Reader;
 use terms::edges::Edge;
 
 // Anything that answers whether there is an edge. It means a set of edges.
 pub trait Graph {
     ghost edges: { Self → Edges };
 
-    // That all of them are edges: so only roles have edges both in and out.
-    ghost formed: { (g : Self) → all_edges (edges g) ≡ true };
-
     fn holds(&self, edge: Edge) -> bool
         ensures { result ≡ has (edges self.now) edge };
 
-    // The roles that a vertex has an edge to, in one word: bit k is for role 64 + k.
-    fn row(&self, from: u16) -> u64
-        ensures { Row (edges self.now) from result };
+    // The roles that a vertex has an edge to.
+    fn row(&self, from: u16) -> Roles
+        ensures { Row (edges self.now) from result.word };
+
+    // All of them are edges: so only roles have edges both in and out.
+    ghost formed: { (g : Self) → all_edges (edges g) ≡ true };
+}
+
+// The edges that a reader holds.
+impl<R: Reader> Graph for R {
+    ghost edges = { λ r. R.Reader.edges r };
+
+    ghost formed = { λ r. vault_edges (R.Reader.edges r) (R.Reader.table r).vault };
+
+    fn holds(&self, edge: Edge) -> bool {
+        Reader::holds(self, edge)
+    }
+
+    fn row(&self, from: u16) -> Roles {
+        Reader::row(self, from)
+    }
 }

@@ -2,4 +2,3 @@
 
 pub mod graph;
 pub mod search;
-pub mod tables;

@@ -1,81 +1,59 @@
-ghost use Rattle.std.specs.Prelude.{◌≡◌, ℕ, ◌<◌, true, MatchBool, ◌≢◌};
-ghost use Rattle.model.specs.BitRows.{bit};
+ghost use Rattle.std.specs.Prelude.{◌≡◌};
 ghost use Rattle.meaning.specs.Paths.{reaches};
-ghost use Rattle.graph.specs.Searches.{Closure, Begins, ReachesRoles, EdgeFrom};
+ghost use Rattle.graph.specs.Searches.{Closure, Begins, ReachesRoles, edge_from};
 
 use crate::graph::Graph;
+use model::roles::Roles;
 use terms::edges::Edge;
-use terms::kinds::is_role;
-
-// The place of the lowest bit that is set.
-fn lowest(word: u64) -> u16
-    requires { word ≢ 0 }
-    ensures { (result < 64) × (bit word result ≡ true) }
-{
-    word.trailing_zeros() as u16
-}
-
-// Whether a bit is set.
-fn has_bit(word: u64, place: u16) -> bool
-    requires { place < 64 }
-    ensures { result ≡ bit word place }
-{
-    (word >> place) % 2 == 1
-}
+use terms::kinds::Kind;
 
 // The roles that some roles reach. The edges of each role are followed once.
-fn closure<G: Graph>(graph: &G, roles: u64) -> u64
-    ensures { Closure (G.edges graph.now) roles result }
+fn closure<G: Graph>(graph: &G, roles: Roles) -> Roles
+    ensures { Closure (G.edges graph.now) roles.word result.word }
 {
     let mut seen = roles;
-    let mut done = 0;
-    while seen != done {
-        let next = lowest(seen ^ done);
-        done |= 1u64 << next;
-        seen |= graph.row(64 + next);
+    let mut done = Roles::none();
+    while let Some(role) = seen.beyond(done) {
+        done = done.with(role);
+        seen = seen.union(graph.row(role));
     }
     seen
 }
 
 // Whether one of some roles has an edge to a vertex.
-fn have_edge<G: Graph>(graph: &G, roles: u64, to: u16) -> bool
-    ensures { MatchBool result (EdgeFrom (G.edges graph.now) roles to) (EdgeFrom (G.edges graph.now) roles to → ⊥) }
+fn have_edge<G: Graph>(graph: &G, roles: Roles, to: u16) -> bool
+    ensures { result ≡ edge_from (G.edges graph.now) roles.word to }
 {
-    for k in 0..64u16 {
-        if has_bit(roles, k) && graph.holds(Edge { from: 64 + k, to }) {
-            return true;
-        }
-    }
-    false
+    (64..128u16).any(|role| roles.has(role) && graph.holds(Edge { from: role, to }))
 }
 
 // The roles to begin with: a role itself, or those that any other vertex has an edge to.
-fn first<G: Graph>(graph: &G, from: u16) -> u64
-    ensures { Begins (G.edges graph.now) from result }
+fn first<G: Graph>(graph: &G, from: u16) -> Roles
+    ensures { Begins (G.edges graph.now) from result.word }
 {
-    if is_role(from) {
-        1u64 << (from - 64)
+    if Kind::Role.has(from) {
+        Roles::only(from)
     } else {
         graph.row(from)
     }
 }
 
 // Whether a vertex is reached, where the roles are those that `from` reaches.
-fn is_reached<G: Graph>(graph: &G, from: u16, roles: u64, to: u16) -> bool
-    ensures { ReachesRoles (G.edges graph.now) from roles → result ≡ reaches (G.edges graph.now) from to }
+fn is_reached<G: Graph>(graph: &G, from: u16, roles: Roles, to: u16) -> bool
+    ensures { ReachesRoles (G.edges graph.now) from roles.word → result ≡ reaches (G.edges graph.now) from to }
 {
     if from == to {
         return true;
     }
-    if is_role(to) {
-        return has_bit(roles, to - 64);
+    if Kind::Role.has(to) {
+        return roles.has(to);
     }
     have_edge(graph, roles, to)
 }
 
-// The roles that a vertex reaches, itself among them if it is a role: bit k is for role 64 + k.
-pub fn reached<G: Graph>(graph: &G, from: u16) -> u64
-    ensures { ReachesRoles (G.edges graph.now) from result }
+// The roles that a vertex reaches, itself among them if it is a role.
+pub fn reached<G: Graph>(graph: &G, from: u16) -> Roles
+    ensures { ReachesRoles (G.edges graph.now) from result.word }
 {
     closure(graph, first(graph, from))
 }

@@ -1,67 +1,36 @@
--- Bits of a number: of a power of two, of two numbers put together or compared, and the lowest that is set.
-use Rattle.std.proofs.Common.{◌≡◌, ℕ, zero, suc, ◌+◌, ◌-◌, ◌*◌, ◌/◌, ◌%◌, ◌^◌, ◌<◌, ◌≤◌, max, Bool, true, false, cond, ◌&&◌, ◌||◌, eqb, ltb, sym, refl, ap, ◌∙◌, subst, ⊎_elim, arith}
-use lib.Bits.{bit_or, bit_xor, differ, or_step, xor_step, xor_self, xor_zero_l, xor_zero_r, xor_assoc, or_add_and}
-use lib.Count.{count_trailing_zeros, under}
-use Rattle.std.proofs.lemmas.Nat.{pow-add, pow_pos, pow_below, shl-shr, shr-shr, or_shr, xor_shr, mod_low, mod_below, div_below, and_le_r, one_shl}
-use Rattle.std.proofs.lemmas.Bool.{cases_order, cases_eq, eq-eqb, ne_eqb, eqb-true, lt-ltb, le-ltb}
-use Rattle.terms.specs.Graph.{edge}
+-- Bits of a number: of a power of two, of two numbers put together, and of what one has beyond another.
+use Rattle.std.proofs.Common.{◌≡◌, ◌≢◌, ℕ, zero, suc, ◌+◌, ◌-◌, ◌/◌, ◌%◌, ◌^◌, ◌<◌, ◌≤◌, min, max, Bool, true, false, not, ◌&&◌, ◌||◌, eqb, ltb, bit_and, bit_or, sym, refl, ap, ◌∙◌, subst, ⊎_elim, arith}
+use Rattle.std.specs.Int.{w64, bit_at, bit_not}
+use Rattle.std.specs.Int.Count.{count_trailing_zeros}
+use Rattle.std.proofs.lemmas.Nat.Bits.{bit_at-zero, bit_at-lt, bit_at-pow_same, bit_at-pow_other, bit_at_or, bit_at_and, bit_at_not, bit_at-trailing_zeros}
+use Rattle.std.proofs.lemmas.Nat.{and_le_l}
+use Rattle.std.proofs.lemmas.Bool.{cases_order, cases_eq, cases_Bool, and_left, and_right, and_from, eq-eqb, ne_eqb, lt-ltb, le-ltb}
+use Rattle.std.proofs.lemmas.Bool.Decides.{nat_tests}
+use Rattle.terms.specs.Graph.{edge, is_role}
 use Rattle.model.specs.EdgeSets.{Edges, has}
-use Rattle.model.specs.BitRows.{bit, Row}
-
-digit_below : (w j : ℕ) → w / 2 ^ j % 2 < 2
-digit_below w j = mod_below (w / 2 ^ j) 2 (omega arith)
+use Rattle.model.specs.BitRows.{bit, Row, has_role, role_word, is_beyond, LowestBeyond}
 
 -- a power of two has one bit
 pub pow_same : (k : ℕ) → 2 ^ k / 2 ^ k % 2 ≡ 1
-pow_same k =
-    let one : 2 ^ k ≡ 1 * 2 ^ k = omega arith in
-    ap (λ (n : ℕ). n % 2) (ap (λ (n : ℕ). n / 2 ^ k) one ∙ shl-shr 1 k)
+pow_same = bit_at-pow_same
 
-pow_above : (i j : ℕ) → 2 ^ (i + 1 + j) / 2 ^ j % 2 ≡ 0
-pow_above i j =
-    let e : 2 ^ (i + 1 + j) / 2 ^ j ≡ 2 ^ (i + 1) = ap (λ (n : ℕ). n / 2 ^ j) (pow-add 2 (i + 1) j) ∙ shl-shr (2 ^ (i + 1)) j in
-    let f : 2 ^ (i + 1) ≡ 2 ^ i * 2 = pow-add 2 i 1 in
-    omega (arith, e, f)
-
-pow_under : (j k : ℕ) → k < j → 2 ^ k / 2 ^ j % 2 ≡ 0
-pow_under j k h =
-    let n : 2 ^ k < 1 * 2 ^ j = omega (arith, pow_below k j h) in
-    let e : 2 ^ k / 2 ^ j < 1 = div_below (2 ^ k) (2 ^ j) 1 (pow_pos j) n in
-    omega (arith, e)
-
-pub pow_other : (j k : ℕ) → (j ≡ k → ⊥) → 2 ^ k / 2 ^ j % 2 ≡ 0
-pow_other j k ne =
-    ⊎_elim (λ e. absurd (ne e))
-    (⊎_elim
-    (λ (l : j < k). let q : k - j - 1 + 1 + j ≡ k = omega arith in subst (λ (n : ℕ). 2 ^ n / 2 ^ j % 2 ≡ 0) q (pow_above (k - j - 1) j))
-    (pow_under j k))
-    (cases_order j k)
+pub pow_other : (j k : ℕ) → j ≢ k → 2 ^ k / 2 ^ j % 2 ≡ 0
+pow_other j k = bit_at-pow_other k j
 
 pub bit_one : (k j : ℕ) → bit (2 ^ k) j ≡ eqb j k
 bit_one k j =
     ⊎_elim
-    (λ (e : j ≡ k). subst (λ (i : ℕ). bit (2 ^ k) i ≡ eqb i k) (sym e) (rw (pow_same k, eq-eqb k k refl)))
-    (λ (ne : j ≡ k → ⊥). rw (pow_other j k ne, ne_eqb j k ne))
+    (λ (e : j ≡ k). subst (λ (i : ℕ). bit (2 ^ k) i ≡ eqb i k) (sym e) (rw (bit_at-pow_same k, eq-eqb k k refl)))
+    (λ (ne : j ≢ k). rw (bit_at-pow_other k j ne, ne_eqb j k ne))
     (cases_eq j k)
 
 pub bit_none : (j : ℕ) → bit 0 j ≡ false
-bit_none j = let z : 0 / 2 ^ j % 2 ≡ 0 = let p = pow_pos j in let q : 0 / 2 ^ j < 1 = div_below 0 (2 ^ j) 1 p (omega arith) in omega (arith, q) in rw z
+bit_none j = ap (λ (n : ℕ). eqb n 1) (bit_at-zero j)
 
 -- two numbers put together
 pub bit_of_or : (a b j : ℕ) → bit (bit_or a b) j ≡ (bit a j || bit b j)
-bit_of_or a b j = ap (λ (n : ℕ). eqb n 1) digits ∙ by (x % 2) (y % 2) (digit_below a j) (digit_below b j)
+bit_of_or a b j = ap (λ (n : ℕ). eqb n 1) (bit_at_or a b j) ∙ by (bit_at a j) (bit_at b j) (bit_at-lt a j) (bit_at-lt b j)
   where
-    x : ℕ
-    x = a / 2 ^ j
-
-    y : ℕ
-    y = b / 2 ^ j
-
-    digits : bit_or a b / 2 ^ j % 2 ≡ max (x % 2) (y % 2)
-    digits =
-        let small : max (x % 2) (y % 2) < 2 ^ 1 = omega (arith, digit_below a j, digit_below b j) in
-        ap (λ (n : ℕ). n % 2) (or_shr a b j) ∙ (ap (λ (n : ℕ). n % 2) (or_step x y) ∙ mod_low (bit_or (x / 2) (y / 2)) 1 (max (x % 2) (y % 2)) small)
-
     by : (p q : ℕ) → p < 2 → q < 2 → eqb (max p q) 1 ≡ (eqb p 1 || eqb q 1)
     by zero zero h k = refl
     by zero (suc zero) h k = refl
@@ -71,114 +40,120 @@ bit_of_or a b j = ap (λ (n : ℕ). eqb n 1) digits ∙ by (x % 2) (y % 2) (digi
     by (suc zero) (suc (suc q)) h k = absurd (omega arith)
     by (suc (suc p)) q h k = absurd (omega arith)
 
-pub or_most : (a b : ℕ) → a ≤ bit_or a b
-or_most a b = let p = or_add_and a b in let q = and_le_r a b in omega arith
-
--- two numbers compared
-pub bit_of_xor : (a b j : ℕ) → bit (bit_xor a b) j ≡ true → (bit b j ≡ true → bit a j ≡ true) → (bit a j ≡ true) × (bit b j ≡ false)
-bit_of_xor a b j h s = by (x % 2) (y % 2) (digit_below a j) (digit_below b j) (sym (ap (λ (n : ℕ). eqb n 1) digits) ∙ h) s
+-- what a number has beyond another, in 64 bits
+bit_beyond : (a b j : ℕ) → b < 2 ^ 64 → j < 64 → bit (bit_and a (bit_not w64 b)) j ≡ (bit a j && not (bit b j))
+bit_beyond a b j h l =
+    ap (λ (n : ℕ). eqb n 1) (bit_at_and a (bit_not w64 b) j ∙ ap (min (bit_at a j)) (bit_at_not w64 b j h l))
+    ∙ by (bit_at a j) (bit_at b j) (bit_at-lt a j) (bit_at-lt b j)
   where
-    x : ℕ
-    x = a / 2 ^ j
+    by : (p q : ℕ) → p < 2 → q < 2 → eqb (min p (1 - q)) 1 ≡ (eqb p 1 && not (eqb q 1))
+    by zero zero h k = refl
+    by zero (suc zero) h k = refl
+    by (suc zero) zero h k = refl
+    by (suc zero) (suc zero) h k = refl
+    by zero (suc (suc q)) h k = absurd (omega arith)
+    by (suc zero) (suc (suc q)) h k = absurd (omega arith)
+    by (suc (suc p)) q h k = absurd (omega arith)
 
-    y : ℕ
-    y = b / 2 ^ j
-
-    differ_below : (p q : ℕ) → p < 2 → q < 2 → differ p q < 2 ^ 1
-    differ_below zero q h k = k
-    differ_below (suc p) zero h k = h
-    differ_below (suc zero) (suc zero) h k = omega arith
-    differ_below (suc zero) (suc (suc q)) h k = absurd (omega arith)
-    differ_below (suc (suc p)) (suc q) h k = absurd (omega arith)
-
-    digits : bit_xor a b / 2 ^ j % 2 ≡ differ (x % 2) (y % 2)
-    digits =
-        ap (λ (n : ℕ). n % 2) (xor_shr a b j)
-        ∙ (ap (λ (n : ℕ). n % 2) (xor_step x y) ∙ mod_low (bit_xor (x / 2) (y / 2)) 1 (differ (x % 2) (y % 2)) (differ_below (x % 2) (y % 2) (digit_below a j) (digit_below b j)))
-
-    by : (p q : ℕ) → p < 2 → q < 2 → eqb (differ p q) 1 ≡ true → (eqb q 1 ≡ true → eqb p 1 ≡ true) → (eqb p 1 ≡ true) × (eqb q 1 ≡ false)
-    by zero zero h k d s = (d, refl)
-    by zero (suc zero) h k d s = absurd (let z = eqb-true 0 1 (s refl) in omega arith)
-    by (suc zero) zero h k d s = (refl, refl)
-    by (suc zero) (suc zero) h k d s = absurd (let z = eqb-true 0 1 d in omega arith)
-    by zero (suc (suc q)) h k d s = absurd (omega arith)
-    by (suc zero) (suc (suc q)) h k d s = absurd (omega arith)
-    by (suc (suc p)) q h k d s = absurd (omega arith)
-
-pub xor_differ : (a b : ℕ) → (a ≡ b → ⊥) → bit_xor a b ≡ 0 → ⊥
-xor_differ a b n z =
-    n (sym (xor_zero_r a) ∙ ap (bit_xor a) (sym z) ∙ sym (xor_assoc a a b) ∙ ap (λ (m : ℕ). bit_xor m b) (xor_self a) ∙ xor_zero_l b)
-
--- the lowest bit that is set
-pub lowest_bit : (k n : ℕ) → (n ≡ 0 → ⊥) → n < 2 ^ k → (count_trailing_zeros k n < k) × (bit n (count_trailing_zeros k n) ≡ true)
-unfolding count_trailing_zeros
-lowest_bit zero n p h = absurd (p (omega arith))
-lowest_bit (suc k) n p h = by (n % 2) refl (λ q. lowest_bit k (n / 2) q half)
+role_beyond : (a b v : ℕ) → b < 2 ^ 64 → is_beyond a b v ≡ has_role (bit_and a (bit_not w64 b)) v
+role_beyond a b v h = by (is_role v) refl
   where
-    half : n / 2 < 2 ^ k
-    half = let q : 2 ^ (k + 1) ≡ 2 ^ k * 2 = pow-add 2 k 1 in omega arith
+    by : (r : Bool) → is_role v ≡ r → ((r && bit a (v - 64)) && not (r && bit b (v - 64))) ≡ (r && bit (bit_and a (bit_not w64 b)) (v - 64))
+    by true q = sym (bit_beyond a b (v - 64) h (grind (arith, nat_tests)))
+    by false q = refl
 
-    by : (d : ℕ) → n % 2 ≡ d → ((n / 2 ≡ 0 → ⊥) → (count_trailing_zeros k (n / 2) < k) × (bit (n / 2) (count_trailing_zeros k (n / 2)) ≡ true))
-        → (under d (count_trailing_zeros k (n / 2)) < suc k) × (bit n (under d (count_trailing_zeros k (n / 2))) ≡ true)
-    by zero q ih =
-        let l = ih (λ z. p (omega arith)) in
-        let t : ℕ = count_trailing_zeros k (n / 2) in
-        let e : 1 + t ≡ suc t = omega arith in
-        (omega arith, ap (λ (m : ℕ). eqb (m % 2) 1) (sym (subst (λ (i : ℕ). n / 2 / 2 ^ t ≡ n / 2 ^ i) e (shr-shr n 1 t))) ∙ l.1)
-    by (suc zero) q ih = let z : n / 2 ^ 0 % 2 ≡ 1 = omega arith in (omega arith, rw z)
-    by (suc (suc d)) q ih = absurd (omega arith)
+pub none_beyond : (a b : ℕ) → b < 2 ^ 64 → bit_and a (bit_not w64 b) ≡ 0 → (v : ℕ) → is_beyond a b v ≡ false
+none_beyond a b h q v = role_beyond a b v h ∙ ap (λ (n : ℕ). has_role n v) q ∙ and_right (is_role v) (bit 0 (v - 64)) (bit_none (v - 64))
 
--- a row that is gathered role by role: those below k are in it
-pub record Gathered (s : Edges) (from k w : ℕ) : Type 0 where
-  pub bits : (j : ℕ) → bit w j ≡ (ltb j k && has s (edge from (64 + j)))
+module _ (a b : ℕ) (g : a < 2 ^ 64) (h : b < 2 ^ 64) (q : bit_and a (bit_not w64 b) ≢ 0) where
+  least : LowestBeyond a b (64 + count_trailing_zeros 64 (bit_and a (bit_not w64 b)))
+  least = by _ (bit_at-trailing_zeros w64 n (omega arith) (omega (arith, and_le_l a (bit_not w64 b))))
+    where
+      n : ℕ
+      n = bit_and a (bit_not w64 b)
 
-pub gathered_none : (s : Edges) (from : ℕ) → Gathered s from 0 0
-gathered_none s from = record { bits = λ j. let x : ltb j 0 ≡ false = le-ltb j 0 (omega arith) in bit_none j ∙ rw x }
+      by : (t : ℕ) → (t < 64) × (bit_at n t ≡ 1) × ((i : ℕ) → i < t → bit_at n i ≡ 0) → LowestBeyond a b (64 + t)
+      by t (l, here, before) =
+          let r : is_role (64 + t) ≡ true = grind (arith, nat_tests) in
+          let e : 64 + t - 64 ≡ t = omega arith in
+          (role_beyond a b (64 + t) h ∙ and_from (is_role (64 + t)) _ r (ap (bit n) e ∙ ap (λ (d : ℕ). eqb d 1) here), λ x m. role_beyond a b x h ∙ under x m)
+        where
+          under : (x : ℕ) → x < 64 + t → has_role n x ≡ false
+          under x m = ⊎_elim
+              (λ (f : is_role x ≡ true). and_right (is_role x) _ (ap (λ (d : ℕ). eqb d 1) (before (x - 64) (grind (arith, nat_tests)))))
+              (λ (f : is_role x ≡ false). and_left (is_role x) (bit n (x - 64)) f) (cases_Bool (is_role x))
 
-gathered_bit : (s : Edges) (from k w : ℕ) (b : Bool) → b ≡ has s (edge from (64 + k)) → Gathered s from k w
-    → (j : ℕ) → bit (cond b (bit_or w (2 ^ k)) w) j ≡ (ltb j (k + 1) && has s (edge from (64 + j)))
-gathered_bit s from k w b q g j = ⊎_elim same (⊎_elim less more) (cases_order j k)
+  pub one_beyond : is_beyond a b (64 + count_trailing_zeros 64 (bit_and a (bit_not w64 b))) ≡ true
+  one_beyond = least.0
+
+  pub lowest_beyond : (x : ℕ) → x < 64 + count_trailing_zeros 64 (bit_and a (bit_not w64 b)) → is_beyond a b x ≡ false
+  lowest_beyond = least.1
+
+-- one role
+pub bit_of_role : (v j : ℕ) → is_role v ≡ true → bit (role_word v) j ≡ eqb (64 + j) v
+bit_of_role v j r = ap (λ (n : ℕ). bit n j) one ∙ bit_one (v - 64) j ∙ moved
   where
-    at : (c : Bool) → bit (cond c (bit_or w (2 ^ k)) w) j ≡ (bit w j || (c && eqb j k))
-    at true = bit_of_or w (2 ^ k) j ∙ ap (λ (d : Bool). bit w j || d) (bit_one k j)
-    at false = or_none (bit w j)
-      where
-        or_none : (d : Bool) → d ≡ (d || false)
-        or_none true = refl
-        or_none false = refl
+    one : role_word v ≡ 2 ^ (v - 64)
+    one = rw r
 
-    same : j ≡ k → bit (cond b (bit_or w (2 ^ k)) w) j ≡ (ltb j (k + 1) && has s (edge from (64 + j)))
+    low : 64 ≤ v
+    low = grind (arith, nat_tests)
+
+    moved : eqb j (v - 64) ≡ eqb (64 + j) v
+    moved = ⊎_elim
+        (λ (e : 64 + j ≡ v). eq-eqb j (v - 64) (omega (arith, low)) ∙ sym (eq-eqb (64 + j) v e))
+        (λ (n : 64 + j ≢ v). ne_eqb j (v - 64) (λ e. n (omega (arith, low))) ∙ sym (ne_eqb (64 + j) v n))
+        (cases_eq (64 + j) v)
+
+-- a set and one more role
+pub bit_with : (w v j : ℕ) → is_role v ≡ true → bit (bit_or w (role_word v)) j ≡ (bit w j || eqb (64 + j) v)
+bit_with w v j r = bit_of_or w (role_word v) j ∙ ap (λ (b : Bool). bit w j || b) (bit_of_role v j r)
+
+-- a row that is gathered role by role: those below v are in it
+pub record Gathered (s : Edges) (from v w : ℕ) : Type 0 where
+  pub bits : (j : ℕ) → bit w j ≡ (ltb (64 + j) v && has s (edge from (64 + j)))
+
+pub gathered_none : (s : Edges) (from : ℕ) → Gathered s from 64 0
+gathered_none s from = record { bits = λ j. let x : ltb (64 + j) 64 ≡ false = le-ltb (64 + j) 64 (omega arith) in bit_none j ∙ rw x }
+
+-- one more number: it is in what is gathered, where it is the next and passes
+one_more : (p : ℕ → Bool) (c : Bool) (i v : ℕ) → c ≡ p v → ((ltb i v && p i) || (c && eqb i v)) ≡ (ltb i (v + 1) && p i)
+one_more p c i v q = ⊎_elim same (⊎_elim less more) (cases_order i v)
+  where
+    last : (a : Bool) → (a || (c && false)) ≡ a
+    last true = refl
+    last false = and_right c false refl
+
+    all : (a : Bool) → (a && true) ≡ a
+    all true = refl
+    all false = refl
+
+    same : i ≡ v → ((ltb i v && p i) || (c && eqb i v)) ≡ (ltb i (v + 1) && p i)
     same e =
-        let x : ltb j k ≡ false = le-ltb j k (omega arith) in
-        let y : ltb j (k + 1) ≡ true = lt-ltb j (k + 1) (omega arith) in
-        let z : b ≡ has s (edge from (64 + j)) = q ∙ ap (λ (i : ℕ). has s (edge from (64 + i))) (sym e) in
-        at b ∙ rw (g.bits j, x, y, eq-eqb j k e) (ends b ∙ z)
-      where
-        ends : (c : Bool) → (c && true) ≡ c
-        ends true = refl
-        ends false = refl
+        let x : ltb i v ≡ false = le-ltb i v (omega arith) in
+        let y : ltb i (v + 1) ≡ true = lt-ltb i (v + 1) (omega arith) in
+        rw (x, y, eq-eqb i v e) (all c ∙ q ∙ ap p (sym e))
 
-    other : eqb j k ≡ false → ltb j (k + 1) ≡ ltb j k → bit (cond b (bit_or w (2 ^ k)) w) j ≡ (ltb j (k + 1) && has s (edge from (64 + j)))
-    other n l = at b ∙ rw (n, l) (ends (bit w j) b ∙ g.bits j)
-      where
-        ends : (d c : Bool) → (d || (c && false)) ≡ d
-        ends true c = refl
-        ends false true = refl
-        ends false false = refl
+    less : i < v → ((ltb i v && p i) || (c && eqb i v)) ≡ (ltb i (v + 1) && p i)
+    less l = rw (lt-ltb i v l, lt-ltb i (v + 1) (omega arith), ne_eqb i v (λ e. omega arith)) (last (p i))
 
-    less : j < k → bit (cond b (bit_or w (2 ^ k)) w) j ≡ (ltb j (k + 1) && has s (edge from (64 + j)))
-    less l = other (ne_eqb j k (λ e. omega arith)) (lt-ltb j (k + 1) (omega arith) ∙ sym (lt-ltb j k l))
+    more : v < i → ((ltb i v && p i) || (c && eqb i v)) ≡ (ltb i (v + 1) && p i)
+    more l = rw (le-ltb i v (omega arith), le-ltb i (v + 1) (omega arith), ne_eqb i v (λ e. omega arith)) (last false)
 
-    more : k < j → bit (cond b (bit_or w (2 ^ k)) w) j ≡ (ltb j (k + 1) && has s (edge from (64 + j)))
-    more l = other (ne_eqb j k (λ e. omega arith)) (le-ltb j (k + 1) (omega arith) ∙ sym (le-ltb j k (omega arith)))
+pub gathered_yes : {s : Edges} {from v w : ℕ} → Gathered s from v w → 64 ≤ v → v < 128 → has s (edge from v) ≡ true → Gathered s from (v + 1) (bit_or w (role_word v))
+gathered_yes {s} {from} {v} {w} g l m h = record {
+  bits = λ j. bit_with w v j (grind (arith, nat_tests)) ∙ ap (λ (b : Bool). b || eqb (64 + j) v) (g.bits j)
+      ∙ one_more (λ (i : ℕ). has s (edge from i)) true (64 + j) v (sym h);
+}
 
--- with the bit of role 64 + k, as `1 << k` makes it, or without
-pub gathered_yes : {s : Edges} {from k w : ℕ} → Gathered s from k w → k < 64 → has s (edge from (64 + k)) ≡ true
-    → Gathered s from (k + 1) (bit_or w ((1 * 2 ^ k) % 2 ^ 64))
-gathered_yes {s} {from} {k} {w} g l h = record { bits = λ j. ap (λ (n : ℕ). bit (bit_or w n) j) (one_shl k 64 l) ∙ gathered_bit s from k w true (sym h) g j }
+pub gathered_no : {s : Edges} {from v w : ℕ} → Gathered s from v w → has s (edge from v) ≡ false → Gathered s from (v + 1) w
+gathered_no {s} {from} {v} {w} g h = record {
+  bits = λ j. g.bits j ∙ sym (or_false _) ∙ one_more (λ (i : ℕ). has s (edge from i)) false (64 + j) v (sym h);
+}
+  where
+    or_false : (a : Bool) → (a || false) ≡ a
+    or_false true = refl
+    or_false false = refl
 
-pub gathered_no : {s : Edges} {from k w : ℕ} → Gathered s from k w → has s (edge from (64 + k)) ≡ false → Gathered s from (k + 1) w
-gathered_no {s} {from} {k} {w} g h = record { bits = gathered_bit s from k w false (sym h) g }
-
-pub gathered_all : {s : Edges} {from k w : ℕ} → Gathered s from k w → 64 ≤ k → Row s from w
-gathered_all {s} {from} {k} {w} g h j l = let y : ltb j k ≡ true = lt-ltb j k (omega arith) in g.bits j ∙ rw y
+pub gathered_all : {s : Edges} {from v w : ℕ} → Gathered s from v w → 128 ≤ v → Row s from w
+gathered_all {s} {from} {v} {w} g h j l = let y : ltb (64 + j) v ≡ true = lt-ltb (64 + j) v (omega arith) in g.bits j ∙ rw y

@@ -3,3 +3,4 @@
 pub mod cell;
 pub mod laws;
 pub mod places;
+pub mod roles;

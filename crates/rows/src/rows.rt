@@ -9,6 +9,7 @@ ghost use Rattle.rows.specs.Flags.{flagged};
 use crate::words::Words;
 use faults::store::StoreFault;
 use model::cell::cell_of;
+use model::roles::Roles;
 use std::alloc::{AllocError, Global};
 use stores::store::{LIMITS, Made, Reader, Store};
 use terms::edges::Edge;
@@ -39,14 +40,16 @@ impl Rows {
         self.words.bit(cell_of(edge) as usize)
     }
 
-    // The word of a row that has the bits of roles.
-    fn roles_of(&self, from: u16) -> u64
-        ensures { Row (rows_edges self.now) from result }
+    // The roles of a row: the second of its words has their bits.
+    fn roles_of(&self, from: u16) -> Roles
+        ensures { Row (rows_edges self.now) from result.word }
     {
         if from < 128 {
-            self.words.word(from as usize * 4 + 1)
+            Roles {
+                word: self.words.word(from as usize * 4 + 1),
+            }
         } else {
-            0
+            Roles::none()
         }
     }
 
@@ -89,7 +92,7 @@ impl Reader for Rows {
         self.count
     }
 
-    fn row(&self, from: u16) -> u64 {
+    fn row(&self, from: u16) -> Roles {
         self.roles_of(from)
     }
 }

@@ -1,38 +1,56 @@
-ghost use Rattle.std.specs.Prelude.{◌≡◌, ◌<◌, true, false, MatchResult};
+ghost use Rattle.std.specs.Prelude.{◌≡◌, true, false, MatchResult};
 ghost use Rattle.terms.specs.Graph.{is_user};
-ghost use Rattle.sessions.specs.Access.{may_act, access_answer};
+ghost use Rattle.sessions.specs.Access.{may_act, access_answer, answer_once};
 
 use faults::session::SessionFault;
-use graph::tables::reaches;
+use graph::search::reaches;
 use stores::store::Reader;
-use terms::kinds::{is_role, is_user, is_user_privilege};
+use terms::kinds::Kind;
 
-// A user's session without a role. It is handed on from call to call, and ends only by being closed.
-pub struct Session {
-    user: u16,
-}
+// A session without a role.
+#[derive(Drop)]
+pub struct Idle;
 
-// A user's session in a role.
-pub struct ActiveSession {
-    user: u16,
+// A session in a role.
+#[derive(Drop)]
+pub struct Active {
     role: u16,
 }
 
-impl Session {
-    // Opens a session for a user; any other number is refused with 1.
-    pub fn open(user: u16) -> Result<Session, SessionFault>
-        ensures { MatchResult result (λ s. (is_user user ≡ true) × (s.user ≡ user)) (λ f. (is_user user ≡ false) × (f ≡ SessionFault.NoUser)) }
-    {
-        if !is_user(user) {
-            return Err(SessionFault::NoUser);
-        }
-        Ok(Session { user })
-    }
+// A user's session. It is handed on from call to call, and ends only by being closed.
+pub struct Session<S = Idle> {
+    user: u16,
+    state: S,
+}
 
+// A user's session in a role.
+pub type ActiveSession = Session<Active>;
+
+impl<S: Drop> Session<S> {
     pub fn user(&self) -> u16
         ensures { result ≡ self.now.user }
     {
         self.user
+    }
+
+    // Ends the session, and says whose it was.
+    pub fn close(self) -> u16
+        ensures { result ≡ self.user }
+    {
+        let Session { user, state: _ } = self;
+        user
+    }
+}
+
+impl Session<Idle> {
+    // Opens a session for a user; any other number is refused with 1.
+    pub fn open(user: u16) -> Result<Session, SessionFault>
+        ensures { MatchResult result (λ s. (is_user user ≡ true) × (s.user ≡ user)) (λ f. (is_user user ≡ false) × (f ≡ SessionFault.NoUser)) }
+    {
+        if !Kind::User.has(user) {
+            return Err(SessionFault::NoUser);
+        }
+        Ok(Session { user, state: Idle })
     }
 
     // Takes a role that the user reaches in the table now. Any other number is refused with 14, and
@@ -42,35 +60,24 @@ impl Session {
         table: &R,
         role: u16,
     ) -> Result<ActiveSession, (SessionFault, Session)>
-        ensures { MatchResult result (λ a. (may_act (R.Reader.edges table.now) self.user role ≡ true) × (a.user ≡ self.user) × (a.role ≡ role)) (λ b. (may_act (R.Reader.edges table.now) self.user role ≡ false) × (b.0 ≡ SessionFault.NoRole) × (b.1.user ≡ self.user)) }
+        ensures { MatchResult result (λ a. (may_act (R.Reader.edges table.now) self.user role ≡ true) × (a.user ≡ self.user) × (a.state.role ≡ role)) (λ b. (may_act (R.Reader.edges table.now) self.user role ≡ false) × (b.0 ≡ SessionFault.NoRole) × (b.1.user ≡ self.user)) }
     {
-        let Session { user } = self;
-        if is_role(role) && reaches(table, user, role) {
-            return Ok(ActiveSession { user, role });
+        let Session { user, state } = self;
+        if Kind::Role.has(role) && reaches(table, user, role) {
+            return Ok(Session {
+                user,
+                state: Active { role },
+            });
         }
-        Err((SessionFault::NoRole, Session { user }))
-    }
-
-    // Ends the session, and says whose it was.
-    pub fn close(self) -> u16
-        ensures { result ≡ self.user }
-    {
-        let Session { user } = self;
-        user
+        Err((SessionFault::NoRole, Session { user, state }))
     }
 }
 
-impl ActiveSession {
-    pub fn user(&self) -> u16
-        ensures { result ≡ self.now.user }
-    {
-        self.user
-    }
-
+impl Session<Active> {
     pub fn role(&self) -> u16
-        ensures { result ≡ self.now.role }
+        ensures { result ≡ self.now.state.role }
     {
-        self.role
+        self.state.role
     }
 
     // Whether the user has access to a privilege: he reaches the role and the role reaches the
@@ -81,21 +88,37 @@ impl ActiveSession {
         table: &R,
         privilege: u16,
     ) -> (Result<bool, SessionFault>, ActiveSession)
-        ensures { (result.0 ≡ access_answer (R.Reader.edges table.now) self.user self.role privilege) × (result.1.user ≡ self.user) × (result.1.role ≡ self.role) }
+        ensures { (result.0 ≡ access_answer (R.Reader.edges table.now) self.user self.state.role privilege) × (result.1.user ≡ self.user) × (result.1.state.role ≡ self.state.role) }
     {
-        let answer = if is_user_privilege(privilege) {
-            Ok(reaches(table, self.user, self.role) && reaches(table, self.role, privilege))
+        let role = self.state.role;
+        let answer = if Kind::UserPrivilege.has(privilege) {
+            Ok(reaches(table, self.user, role) && reaches(table, role, privilege))
         } else {
             Err(SessionFault::NoPrivilege)
         };
         (answer, self)
     }
+}
 
-    // Ends the session, and says whose it was.
-    pub fn close(self) -> u16
-        ensures { result ≡ self.user }
-    {
-        let ActiveSession { user, role: _ } = self;
-        user
+// Asks one question by a session of its own: in a role, about a user privilege. It asks role (14),
+// then privilege (10).
+pub fn ask_once<R: Reader>(
+    table: &R,
+    session: Session,
+    role: u16,
+    privilege: u16,
+) -> Result<bool, SessionFault>
+    ensures { result ≡ answer_once (R.Reader.edges table.now) session.user role privilege }
+{
+    match session.activate(table, role) {
+        Ok(active) => {
+            let (answer, active) = active.ask(table, privilege);
+            active.close();
+            answer
+        }
+        Err((fault, session)) => {
+            session.close();
+            Err(fault)
+        }
     }
 }

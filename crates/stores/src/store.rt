@@ -4,6 +4,7 @@ ghost use Rattle.model.specs.BitRows.{Row};
 ghost use Rattle.stores.specs.Putting.{put_answer, put, store_limit};
 
 use faults::store::StoreFault;
+use model::roles::Roles;
 use std::alloc::{AllocError, Global};
 use terms::edges::Edge;
 use terms::limits::Limits;
@@ -18,29 +19,28 @@ pub const LIMITS: Limits = Limits {
 pub trait Reader {
     ghost edges: { Self → Edges };
 
-    // That the set is such a set. It is a ghost member, and not a law, so that a reader may borrow
-    // what it reads.
-    ghost table: { (r : Self) → Table (edges r) };
-
     fn holds(&self, edge: Edge) -> bool
         ensures { result ≡ has (edges self.now) edge };
 
     fn count(&self) -> usize
         ensures { result ≡ length (edges self.now) };
 
-    // The roles that a vertex has an edge to, in one word: bit k is for role 64 + k. Each make of
-    // reader may answer in a faster way than this.
-    fn row(&self, from: u16) -> u64
-        ensures { Row (edges self.now) from result }
+    // The roles that a vertex has an edge to. Each make of reader may answer in a faster way than
+    // this.
+    fn row(&self, from: u16) -> Roles
+        ensures { Row (edges self.now) from result.word }
     {
-        let mut row = 0;
-        for k in 0..64u16 {
-            if self.holds(Edge { from, to: 64 + k }) {
-                row |= 1u64 << k;
+        let mut row = Roles::none();
+        for role in 64..128u16 {
+            if self.holds(Edge { from, to: role }) {
+                row = row.with(role);
             }
         }
         row
     }
+
+    // The set is such a set.
+    ghost table: { (r : Self) → Table (edges r) };
 }
 
 // A store is a vault's table: a reader that can also put and drop, with a limit that never moves.

@@ -1,9 +1,9 @@
-use Rattle.std.proofs.Common.{sym, refl}
+use Rattle.std.proofs.Common.{sym}
 use Rattle.graph.proofs.Closures.{from_role, from_other}
 use Rattle.graph.proofs.search.first.Goals as goal
 
-pub returns-then-is_role : goal.returns-then-is_role
-returns-then-is_role g c = λ r k. from_role _ c.args.from _ r (sym c.if-is_role.ensures) refl k
+pub returns-then-has : goal.returns-then-has
+returns-then-has g c r = rw c.only.ensures (from_role _ c.args.from r (sym c.if-has.ensures))
 
-pub returns-else-is_role : goal.returns-else-is_role
-returns-else-is_role g c = λ r k. from_other _ c.args.from _ r (g.G.Graph.formed _) (sym c.if-is_role.ensures) c.row.ensures k
+pub returns-else-has : goal.returns-else-has
+returns-else-has g c r = from_other _ c.args.from _ r (g.met.G.Graph.formed _) (sym c.if-has.ensures) c.row.ensures

@@ -8,7 +8,7 @@ use Rattle.images.proofs.writer.write_runs.Goals as goal
 use Rattle.images.proofs.writer.write_runs.Goals.{then-holds, else-holds}
 
 pub loop-cell-init : goal.loop-cell-init
-loop-cell-init g c = walk_starts (g.R.Reader.edges c.args.table.now) (g.R.Reader.table c.args.table.now) c.args.out.now c.requires
+loop-cell-init g c = walk_starts (g.R.Reader.edges c.args.table.now) (g.met.R.Reader.table c.args.table.now) c.args.out.now c.requires
 
 -- what the table says of the edge of a cell
 told : (s : Edges) (e : Edge) (c : ℕ) (b : Bool) → e ≡ edge_at c → b ≡ has s e → has s (edge_at c) ≡ b
@@ -21,14 +21,14 @@ asks s t before after c n d wide long e small w = (omega (arith, w.within), smal
 
 pub close-draft-requires : goal.close-draft-requires
 close-draft-requires g c =
-    let (cells, small, room) = asks (g.R.Reader.edges c.args.table.now) (g.R.Reader.table c.args.table.now) c.args.out.now c.loop-cell.out c.loop-cell.cell c.loop-cell.cell c.loop-cell.draft
+    let (cells, small, room) = asks (g.R.Reader.edges c.args.table.now) (g.met.R.Reader.table c.args.table.now) c.args.out.now c.loop-cell.out c.loop-cell.cell c.loop-cell.cell c.loop-cell.draft
     c.requires c.loop-cell.auto.out refl c.loop-cell.auto.cell-end c.loop-cell.invariant in
     record { cells = cells; small = small; room = room }
 
 pub loop-cell-preserved : goal.loop-cell-preserved
 loop-cell-preserved g c =
     let s = g.R.Reader.edges c.args.table.now in
-    let t = g.R.Reader.table c.args.table.now in
+    let t = g.met.R.Reader.table c.args.table.now in
     elim c.if-holds.branch [
       | then-holds w ↦
           rw (w.out-is, w.draft-is)
@@ -42,7 +42,7 @@ loop-cell-preserved g c =
 
 pub close-requires : goal.close-requires
 close-requires g c =
-    let (cells, small, room) = asks (g.R.Reader.edges c.args.table.now) (g.R.Reader.table c.args.table.now) c.args.out.now c.loop-cell.out c.loop-cell.cell 32768 c.loop-cell.draft
+    let (cells, small, room) = asks (g.R.Reader.edges c.args.table.now) (g.met.R.Reader.table c.args.table.now) c.args.out.now c.loop-cell.out c.loop-cell.cell 32768 c.loop-cell.draft
     c.requires c.loop-cell.auto.out (omega arith) (omega arith) c.loop-cell.invariant in
     record { cells = cells; small = small; room = room }
 
@@ -50,5 +50,5 @@ pub returns : goal.returns
 returns g c =
     let s = g.R.Reader.edges c.args.table.now in
     let end : c.loop-cell.cell ≡ 32768 = omega arith in
-    walk_ends s (g.R.Reader.table c.args.table.now) c.args.out.now c.requires c.loop-cell.out c.close.new.out c.loop-cell.draft c.close.result
+    walk_ends s (g.met.R.Reader.table c.args.table.now) c.args.out.now c.requires c.loop-cell.out c.close.new.out c.loop-cell.draft c.close.result
     (subst (λ (x : ℕ). Walk s c.args.out.now c.loop-cell.out x c.loop-cell.draft) end c.loop-cell.invariant) c.close.ensures

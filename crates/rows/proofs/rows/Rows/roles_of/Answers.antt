@@ -5,4 +5,4 @@ pub returns-then-from-lt128 : goal.returns-then-from-lt128
 returns-then-from-lt128 c = role_flags c.args.self.now.words c.args.from _ c.if-from-lt128.true c.word.ensures
 
 pub returns-else-from-lt128 : goal.returns-else-from-lt128
-returns-else-from-lt128 c = no_role_flags c.args.self.now.words c.args.from c.args.self.now.vault c.if-from-lt128.false
+returns-else-from-lt128 c = rw c.none.ensures (no_role_flags c.args.self.now.words c.args.from c.args.self.now.vault c.if-from-lt128.false)

@@ -1,5 +1,5 @@
 use Rattle.model.proofs.BitRows.{Gathered}
 use Rattle.stores.proofs.store.Reader.row.Given as goal
 
-abbrev pub invariant-loop-k : goal.invariant-loop-k
-invariant-loop-k g l = Gathered (g.Self.Reader.edges l.self) l.from l.k l.row
+abbrev pub invariant-loop-role : goal.invariant-loop-role
+invariant-loop-role g l = Gathered (g.Self.Reader.edges l.self) l.from l.role l.row.word

@@ -1,0 +1,67 @@
+ghost use Rattle.std.specs.Prelude.{◌≡◌, ℕ, false, MatchOption, bit_or};
+ghost use Rattle.model.specs.BitRows.{has_role, role_word, is_beyond, LowestBeyond};
+
+use terms::kinds::Kind;
+
+// A set of roles in one word: bit k is for role 64 + k.
+#[derive(Clone, Copy, PartialEq, Eq)]
+pub struct Roles {
+    pub word: u64,
+}
+
+impl Roles {
+    // The set without roles.
+    pub fn none() -> Roles
+        ensures { result.word ≡ 0 }
+    {
+        Roles { word: 0 }
+    }
+
+    // The set of one role; none where the number is no role.
+    pub fn only(role: u16) -> Roles
+        ensures { result.word ≡ role_word role }
+    {
+        if Kind::Role.has(role) {
+            Roles {
+                word: 1u64 << (role - 64),
+            }
+        } else {
+            Roles::none()
+        }
+    }
+
+    // Whether a number is one of the roles.
+    pub fn has(self, role: u16) -> bool
+        ensures { result ≡ has_role self.word role }
+    {
+        Kind::Role.has(role) && (self.word >> (role - 64)) % 2 == 1
+    }
+
+    // These roles and one more; the same ones where the number is no role.
+    pub fn with(self, role: u16) -> Roles
+        ensures { result.word ≡ bit_or self.word (role_word role) }
+    {
+        self.union(Roles::only(role))
+    }
+
+    // The roles of either set.
+    pub fn union(self, other: Roles) -> Roles
+        ensures { result.word ≡ bit_or self.word other.word }
+    {
+        Roles {
+            word: self.word | other.word,
+        }
+    }
+
+    // The lowest role that this set has and another lacks.
+    #[tactic(auto, using(crate::proofs::BitRows::none_beyond, crate::proofs::BitRows::one_beyond, crate::proofs::BitRows::lowest_beyond))]
+    pub fn beyond(self, other: Roles) -> Option<u16>
+        ensures { MatchOption result ((v : ℕ) → is_beyond self.word other.word v ≡ false) (λ v. LowestBeyond self.word other.word v) }
+    {
+        let beyond = self.word & !other.word;
+        if beyond == 0 {
+            return None;
+        }
+        Some(64 + beyond.trailing_zeros() as u16)
+    }
+}
