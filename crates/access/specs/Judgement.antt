@@ -1,5 +1,5 @@
 -- The answer to a question about an image, as a session over it would give it.
-use Rattle.std.specs.Prelude.{ℕ, ◌+◌, Bool, true, false, cond, List, Ok, Err, Result}
+use Rattle.std.specs.Prelude.{ℕ, ◌+◌, Bool, true, false, not, if◌then◌else◌, List, Ok, Err, Result}
 use Rattle.terms.specs.Graph.{is_user, is_user_privilege}
 use Rattle.faults.specs.declared.access.AccessFault.{AccessFault}
 use Rattle.faults.specs.declared.access.AccessFault.TheVariants.{Image, Session}
@@ -12,13 +12,11 @@ use Rattle.sessions.specs.Access.{may_act, allows}
 -- is it a user, a user privilege, an image, a role that the user reaches? Then whether he has access.
 abbrev pub judged : List ℕ → ℕ → ℕ → ℕ → Result Bool AccessFault
 judged bytes user role privilege =
-    cond (is_user user)
-    (cond (is_user_privilege privilege)
-    (cond (accepted bytes)
-    (cond (may_act (held bytes) user role) (Ok (allows (held bytes) user role privilege)) (Err (Session NoRole)))
-    (Err (Image NoImage)))
-    (Err (Session NoPrivilege)))
-    (Err (Session NoUser))
+    if not (is_user user) then Err (Session NoUser)
+    else if not (is_user_privilege privilege) then Err (Session NoPrivilege)
+    else if not (accepted bytes) then Err (Image NoImage)
+    else if not (may_act (held bytes) user role) then Err (Session NoRole)
+    else Ok (allows (held bytes) user role privilege)
 
 -- 0 is no, 1 is yes, and a refusal is 100 and its number
 abbrev pub code : Result Bool AccessFault → ℕ

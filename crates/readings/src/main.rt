@@ -2,41 +2,22 @@
 //! after a withdrawal. Once for each make of store.
 #![tactic(auto)]
 
-use faults::bank::BankFault;
+use faults::refusal::Refusal;
 use faults::session::SessionFault;
 use images::image::Image;
 use images::writer::write;
 use links::link::Link;
-use links::queue::Queue;
-use memories::makes::{packed, ring};
-use memories::slots::Slots;
-use memories::strip::Strip;
+use memories::makes::{Packed, Ring};
 use pairs::pairs::Pairs;
 use rows::rows::Rows;
+use samples::delivery::deliver;
+use samples::edges::{CHAIN, GRANT, MEMBER};
 use sessions::session::Session;
-use std::alloc::{AllocError, Global};
 use std::io;
 use stores::store::{Reader, Store};
-use terms::edges::{Change, Edge};
+use terms::edges::Change;
 use vaults::bank::Bank;
 use vaults::vault::Vault;
-
-// The role chain 64 to 65 to the privilege 128, and the user 2 in role 64.
-const CHAIN: Edge = Edge { from: 64, to: 65 };
-
-const GRANT: Edge = Edge { from: 65, to: 128 };
-
-const MEMBER: Edge = Edge { from: 2, to: 64 };
-
-// Performs the message that waits first at a vault on its table, and strikes it.
-fn deliver<B: Bank>(bank: &mut B, vault: usize) -> Result<(), BankFault> {
-    match bank.head(vault) {
-        Some(Change::Add(edge)) => bank.put(vault, edge)?,
-        Some(Change::Remove(edge)) => bank.drop(vault, edge)?,
-        None => return Ok(()),
-    }
-    bank.strike(vault)
-}
 
 // The image of a table in hexadecimal, and how many edges it has when it is opened again.
 fn show_image<R: Reader>(rt: &HostRuntime, table: &R) -> io::Result<()> {
@@ -73,8 +54,7 @@ fn asked_twice<L: Link, S: Store>(
             active.close();
             Ok((before?, after?))
         }
-        Err(back) => {
-            let (fault, session) = back;
+        Err((fault, session)) => {
             session.close();
             Err(fault)
         }
@@ -101,22 +81,11 @@ fn readings<L: Link, S: Store>(rt: &HostRuntime, bank: &mut (Vault<L, S>, ())) -
     show_image(rt, &bank.0.store)
 }
 
-fn ringed(heap: Global) -> Result<Vault<Queue<Slots>, Rows>, AllocError> {
-    let link = ring(heap, 1024)?;
-    let store = Rows::new(heap, 512)?;
-    Ok(Vault { link, store })
-}
-
-fn stripped(heap: Global) -> Result<Vault<Queue<Strip>, Pairs>, AllocError> {
-    let link = packed(heap, 1024)?;
-    let store = Pairs::new(heap, 512)?;
-    Ok(Vault { link, store })
-}
-
 fn read_both(rt: &HostRuntime) -> anyhow::Result<()> {
-    let first = ringed(rt.alloc())?;
+    let heap = rt.alloc();
+    let first = Vault::<Ring, Rows>::made(heap, 1024, 512)?;
     readings(rt, &mut (first, ()))?;
-    let second = stripped(rt.alloc())?;
+    let second = Vault::<Packed, Pairs>::made(heap, 1024, 512)?;
     readings(rt, &mut (second, ()))?;
     Ok(())
 }

@@ -22,24 +22,51 @@ use vaults::vault::Vault;
 // The bank has link limits 2 and 3, store limits 1 and 2.
 fn keeps_apart<B: Bank>(bank: &mut B) -> Result<(), Fail> {
     let edge = pair(64, 65);
-    claim(bank.send(0, Change::Add(edge)) == Ok(()), "an addition is sent")?;
-    claim(bank.send(0, Change::Remove(edge)) == Ok(()), "a removal is sent")?;
-    claim(bank.send(0, Change::Add(edge)) == Err(BankFault::Link(LinkFault::Full)), "a full link refuses")?;
-    claim(bank.load(0).waiting == 2 && bank.load(1).waiting == 0, "the other link is empty")?;
+    claim(
+        bank.send(0, Change::Add(edge)) == Ok(()),
+        "an addition is sent",
+    )?;
+    claim(
+        bank.send(0, Change::Remove(edge)) == Ok(()),
+        "a removal is sent",
+    )?;
+    claim(
+        bank.send(0, Change::Add(edge)) == Err(BankFault::Link(LinkFault::Full)),
+        "a full link refuses",
+    )?;
+    claim(
+        bank.load(0).waiting == 2 && bank.load(1).waiting == 0,
+        "the other link is empty",
+    )?;
     claim(bank.put(1, edge) == Ok(()), "an edge is put")?;
-    claim(bank.holds(1, edge) && !bank.holds(0, edge), "the other table is empty")?;
+    claim(
+        bank.holds(1, edge) && !bank.holds(0, edge),
+        "the other table is empty",
+    )?;
     claim(bank.put(0, edge) == Ok(()), "it is put there too")?;
-    claim(bank.put(0, pair(64, 66)) == Err(BankFault::Store(StoreFault::Full)), "a full table refuses")?;
+    claim(
+        bank.put(0, pair(64, 66)) == Err(BankFault::Store(StoreFault::Full)),
+        "a full table refuses",
+    )?;
     Ok(())
 }
 
 // What is asked of a vault that is not there.
 fn lacks_third<B: Bank>(bank: &mut B) -> Result<(), Fail> {
     let edge = pair(64, 65);
-    claim(bank.drop(2, edge) == Err(BankFault::NoVault), "no edge is dropped there")?;
-    claim(bank.strike(18446744073709551615) == Err(BankFault::NoVault), "no message is struck there")?;
+    claim(
+        bank.drop(2, edge) == Err(BankFault::NoVault),
+        "no edge is dropped there",
+    )?;
+    claim(
+        bank.strike(18446744073709551615) == Err(BankFault::NoVault),
+        "no message is struck there",
+    )?;
     claim(bank.load(1).link_limit == 3, "the second link's limit")?;
-    claim(bank.load(2).store_limit == 0, "a vault that is not there has none")?;
+    claim(
+        bank.load(2).store_limit == 0,
+        "a vault that is not there has none",
+    )?;
     claim(bank.load(0).held == 1, "the first table holds one")?;
     Ok(())
 }

@@ -1,3 +1,4 @@
+use crate::claim::claim;
 use crate::edges::pair;
 use faults::image::ImageFault;
 use images::image::Image;
@@ -5,7 +6,7 @@ use images::writer::write;
 use pairs::pairs::Pairs;
 use rows::rows::Rows;
 use std::test::Fail;
-use stores::store::{Reader, Store};
+use stores::store::{Made, Reader, Store};
 
 // Puts the pairs of roles with 64, 64 + gap, 64 + 2 gap and so on, until the table is full.
 fn fill<S: Store>(store: &mut S, gap: u16) {
@@ -20,57 +21,51 @@ fn fill<S: Store>(store: &mut S, gap: u16) {
 
 // Whether two readers hold the same vault edges.
 fn same<A: Reader, B: Reader>(one: &A, other: &B) -> bool {
-    let mut ok = one.count() == other.count();
-    for from in 0u16..128 {
-        for to in 64u16..256 {
-            ok &= one.holds(pair(from, to)) == other.holds(pair(from, to));
-        }
-        ok &= one.row(from) == other.row(from);
-    }
-    ok
+    let counts = one.count() == other.count();
+    counts
+        && (0u16..128).all(|from| {
+            let rows = one.row(from) == other.row(from);
+            rows && (64u16..256).all(|to| one.holds(pair(from, to)) == other.holds(pair(from, to)))
+        })
 }
 
 // Whether all bytes of a buffer from a place on are as they were.
 fn untouched(buffer: &[u8], from: usize) -> bool {
-    let mut ok = true;
-    for byte in buffer.iter().skip(from) {
-        ok &= *byte == 7;
-    }
-    ok
+    buffer.iter().skip(from).all(|byte| *byte == 7)
 }
 
-// Whether the image of a table has so many pairs, is opened as the same table, and stands in a
-// buffer whose other bytes are as they were.
-fn round_trip<R: Reader>(table: &R, runs: usize) -> bool {
+// The image of a table has so many pairs, is opened as the same table, and stands in a buffer whose
+// other bytes are as they were.
+fn round_trip<R: Reader>(table: &R, runs: usize) -> Result<(), Fail> {
     let mut buffer = [7u8; 2060];
     let length = write(table, &mut buffer).unwrap_or(0);
-    let mut ok = length == runs.saturating_mul(4).saturating_add(2);
-    ok &= untouched(&buffer, length);
+    claim(
+        length == runs.saturating_mul(4).saturating_add(2),
+        "so many pairs",
+    )?;
+    claim(untouched(&buffer, length), "no other byte is altered")?;
     match Image::open(&buffer[..length.min(2060)]) {
-        Ok(image) => ok && same(table, &image),
-        Err(_) => false,
+        Ok(image) => claim(same(table, &image), "it is the same table"),
+        Err(_) => Err(Fail::new("what was written is no image")),
     }
 }
 
 // Whether bytes are no image.
 fn is_none(bytes: &[u8]) -> bool {
-    match Image::open(bytes) {
-        Ok(_) => false,
-        Err(fault) => fault == ImageFault::NoImage,
-    }
+    matches!(Image::open(bytes), Err(ImageFault::NoImage))
 }
 
 #[test]
 fn round_trips(rt: HostRuntime) -> Result<(), Fail> {
     let heap = rt.alloc();
     let mut rows = Rows::new(heap, 512)?;
-    assert!(rt; round_trip(&rows, 0));
+    round_trip(&rows, 0)?;
     fill(&mut rows, 1);
-    assert!(rt; round_trip(&rows, 3));
+    round_trip(&rows, 3)?;
     let mut pairs = Pairs::new(heap, 512)?;
-    assert!(rt; round_trip(&pairs, 0));
+    round_trip(&pairs, 0)?;
     fill(&mut pairs, 2);
-    assert!(rt; round_trip(&pairs, 512));
+    round_trip(&pairs, 512)?;
     Ok(())
 }
 

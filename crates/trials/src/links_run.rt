@@ -21,7 +21,10 @@ fn message(i: u16) -> Change {
 // Strikes `limit` messages, which are the first ones in their order.
 fn empties<L: Link>(link: &mut L, limit: u16) -> Result<(), Fail> {
     for i in 0..limit {
-        claim(link.head() == Some(message(i)), "the messages come in their order")?;
+        claim(
+            link.head() == Some(message(i)),
+            "the messages come in their order",
+        )?;
         link.strike();
     }
     Ok(())
@@ -29,15 +32,24 @@ fn empties<L: Link>(link: &mut L, limit: u16) -> Result<(), Fail> {
 
 // A link takes as many messages as its limit, refuses the next, and gives them back in their order.
 fn fills<L: Link>(link: &mut L, limit: u16) -> Result<(), Fail> {
-    claim(link.limit() == usize::from(limit), "the limit is the wanted one")?;
+    claim(
+        link.limit() == usize::from(limit),
+        "the limit is the wanted one",
+    )?;
     for i in 0..limit {
         claim(link.send(message(i)) == Ok(()), "a message is sent")?;
     }
-    claim(link.send(message(limit)) == Err(LinkFault::Full), "one message too many is refused")?;
+    claim(
+        link.send(message(limit)) == Err(LinkFault::Full),
+        "one message too many is refused",
+    )?;
     claim(link.count() == usize::from(limit), "as many wait as may")?;
     empties(link, limit)?;
     link.strike();
-    claim(link.count() == 0 && link.head() == None, "none waits at the end")?;
+    claim(
+        link.count() == 0 && link.head() == None,
+        "none waits at the end",
+    )?;
     Ok(())
 }
 
@@ -46,21 +58,39 @@ fn goes_round<L: Link>(link: &mut L) -> Result<(), Fail> {
     claim(link.send(message(0)) == Ok(()), "a first message is sent")?;
     for i in 1u16..100 {
         claim(link.send(message(i)) == Ok(()), "another is sent")?;
-        claim(link.head() == Some(message(i - 1)), "the oldest comes first")?;
+        claim(
+            link.head() == Some(message(i - 1)),
+            "the oldest comes first",
+        )?;
         link.strike();
     }
-    claim(link.count() == 1 && link.head() == Some(message(99)), "one is left")?;
+    claim(
+        link.count() == 1 && link.head() == Some(message(99)),
+        "one is left",
+    )?;
     Ok(())
 }
 
 // What is no vault edge is refused first, also by a full link; nothing is altered.
 fn refuses<L: Link>(link: &mut L) -> Result<(), Fail> {
-    claim(link.send(Change::Add(pair(0, 128))) == Err(LinkFault::NoVaultEdge), "what is no vault edge is refused")?;
+    claim(
+        link.send(Change::Add(pair(0, 128))) == Err(LinkFault::NoVaultEdge),
+        "what is no vault edge is refused",
+    )?;
     claim(link.send(message(0)) == Ok(()), "a message is sent")?;
     claim(link.send(message(1)) == Ok(()), "a second is sent")?;
-    claim(link.send(Change::Remove(pair(64, 256))) == Err(LinkFault::NoVaultEdge), "what is no vault edge is refused first")?;
-    claim(link.send(message(2)) == Err(LinkFault::Full), "a full link refuses")?;
-    claim(link.count() == 2 && link.head() == Some(message(0)), "nothing was altered")?;
+    claim(
+        link.send(Change::Remove(pair(64, 256))) == Err(LinkFault::NoVaultEdge),
+        "what is no vault edge is refused first",
+    )?;
+    claim(
+        link.send(message(2)) == Err(LinkFault::Full),
+        "a full link refuses",
+    )?;
+    claim(
+        link.count() == 2 && link.head() == Some(message(0)),
+        "nothing was altered",
+    )?;
     Ok(())
 }
 
@@ -72,7 +102,10 @@ fn each_way<M: Blank + Drop>(rt: &HostRuntime) -> Result<(), Fail> {
     goes_round(&mut Queue::<M>::made(heap, 3)?)?;
     refuses(&mut Queue::<M>::made(heap, 2)?)?;
     for wrong in [0usize, 1, 1025, 18446744073709551615] {
-        claim(Queue::<M>::made(heap, wrong)?.limit() == 0, "a wrong limit is 0")?;
+        claim(
+            Queue::<M>::made(heap, wrong)?.limit() == 0,
+            "a wrong limit is 0",
+        )?;
     }
     Ok(())
 }

@@ -1,25 +1,14 @@
+use crate::claim::claim;
 use crate::edges::pair;
 use faults::session::SessionFault;
 use pairs::pairs::Pairs;
-use sessions::session::Session;
+use sessions::session::{Session, ask_once};
 use std::test::Fail;
-use stores::store::{Reader, Store};
+use stores::store::{Made, Reader, Store};
 
 // The answer that a session of a user gets in a role, and the refusal if there is one.
 fn asked<R: Reader>(table: &R, user: u16, role: u16, privilege: u16) -> Result<bool, SessionFault> {
-    let session = Session::open(user)?;
-    match session.activate(table, role) {
-        Ok(active) => {
-            let (answer, active) = active.ask(table, privilege);
-            active.close();
-            answer
-        }
-        Err(back) => {
-            let (fault, session) = back;
-            session.close();
-            Err(fault)
-        }
-    }
+    ask_once(table, Session::open(user)?, role, privilege)
 }
 
 // User 63 in role 127, which is in a ring of all roles; role 64 has the privilege 255.
@@ -32,24 +21,32 @@ fn ring_of_roles<S: Store>(store: &mut S) {
     let _ = store.put(pair(64, 255));
 }
 
-fn asks<R: Reader>(table: &R) -> bool {
-    let mut ok = asked(table, 63, 127, 255) == Ok(true);
-    ok &= asked(table, 63, 64, 255) == Ok(true);
-    ok &= asked(table, 63, 100, 254) == Ok(false);
-    ok &= asked(table, 62, 127, 255) == Err(SessionFault::NoRole);
-    ok &= asked(table, 64, 127, 255) == Err(SessionFault::NoUser);
-    ok &= asked(table, 65535, 65535, 65535) == Err(SessionFault::NoUser);
-    ok &= asked(table, 63, 63, 255) == Err(SessionFault::NoRole);
-    ok &= asked(table, 63, 128, 255) == Err(SessionFault::NoRole);
-    ok &= asked(table, 63, 127, 127) == Err(SessionFault::NoPrivilege);
-    ok && asked(table, 63, 127, 256) == Err(SessionFault::NoPrivilege)
+fn asks<R: Reader>(table: &R) -> Result<(), Fail> {
+    for (user, role, privilege, answer) in [
+        (63, 127, 255, Ok(true)),
+        (63, 64, 255, Ok(true)),
+        (63, 100, 254, Ok(false)),
+        (62, 127, 255, Err(SessionFault::NoRole)),
+        (64, 127, 255, Err(SessionFault::NoUser)),
+        (65535, 65535, 65535, Err(SessionFault::NoUser)),
+        (63, 63, 255, Err(SessionFault::NoRole)),
+        (63, 128, 255, Err(SessionFault::NoRole)),
+        (63, 127, 127, Err(SessionFault::NoPrivilege)),
+        (63, 127, 256, Err(SessionFault::NoPrivilege)),
+    ] {
+        claim(
+            asked(table, user, role, privilege) == answer,
+            "a session answers so",
+        )?;
+    }
+    Ok(())
 }
 
 #[test]
 fn answers(rt: HostRuntime) -> Result<(), Fail> {
     let mut table = Pairs::new(rt.alloc(), 512)?;
     ring_of_roles(&mut table);
-    assert!(rt; asks(&table));
+    asks(&table)?;
     table.drop(pair(90, 89));
     assert!(rt; asked(&table, 63, 127, 255) == Ok(false));
     assert!(rt; asked(&table, 63, 89, 255) == Err(SessionFault::NoRole));

@@ -18,23 +18,38 @@ fn takes<S: Store>(store: &mut S, n: u16) -> Result<(), Fail> {
 // A store takes as many edges as its limit and refuses the next, but not one that it holds; what is
 // dropped makes room again.
 fn fills<S: Store>(store: &mut S, limit: u16) -> Result<(), Fail> {
-    claim(store.limit() == usize::from(limit), "the limit is the wanted one")?;
+    claim(
+        store.limit() == usize::from(limit),
+        "the limit is the wanted one",
+    )?;
     takes(store, limit)?;
-    claim(store.put(nth_edge(limit)) == Err(StoreFault::Full), "one edge too many is refused")?;
+    claim(
+        store.put(nth_edge(limit)) == Err(StoreFault::Full),
+        "one edge too many is refused",
+    )?;
     claim(!store.holds(nth_edge(limit)), "and is not held")?;
-    claim(store.count() == usize::from(limit), "as many are held as may be")?;
+    claim(
+        store.count() == usize::from(limit),
+        "as many are held as may be",
+    )?;
     takes(store, limit)?;
     store.drop(nth_edge(0));
     claim(!store.holds(nth_edge(0)), "what was dropped is gone")?;
     claim(store.put(nth_edge(limit)) == Ok(()), "it made room")?;
-    claim(store.count() == usize::from(limit), "as many are held as before")?;
+    claim(
+        store.count() == usize::from(limit),
+        "as many are held as before",
+    )?;
     Ok(())
 }
 
 // What is no vault edge is refused and never held.
 fn refuses<S: Store>(store: &mut S) -> Result<(), Fail> {
     for e in [pair(64, 63), pair(0, 128), pair(128, 64), pair(64, 256)] {
-        claim(store.put(e) == Err(StoreFault::NoVaultEdge), "what is no vault edge is refused")?;
+        claim(
+            store.put(e) == Err(StoreFault::NoVaultEdge),
+            "what is no vault edge is refused",
+        )?;
         claim(!store.holds(e), "and is never held")?;
         store.drop(e);
     }
