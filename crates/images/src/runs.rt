@@ -1,0 +1,70 @@
+ghost use Rattle.std.specs.Prelude.{◌≡◌};
+ghost use Rattle.std.specs.Iterator.{YieldsFirst, item_count};
+ghost use Rattle.model.specs.EdgeSets.{all_vault};
+ghost use Rattle.formats.specs.Runs.{edges_of, fits};
+ghost use Rattle.formats.specs.Images.{taken};
+ghost use Rattle.images.specs.Reading.{ahead};
+
+use crate::cells::is_vault_cell;
+use formats::runs::Run;
+
+// The runs in the bytes of an image, one after another, up to the first that does not fit: the
+// bytes that are still to be read, the least cell at which the next run may begin, and how many
+// more edges there may be.
+#[derive(Drop)]
+pub(crate) struct Runs<'a> {
+    rest: &'a [u8],
+    least: u32,
+    room: u32,
+}
+
+// Whether all cells of a run are those of vault edges.
+fn are_vault_cells(run: Run) -> bool
+    ensures { result ≡ all_vault (edges_of run) }
+{
+    let first = u32::from(run.first);
+    (first..first + u32::from(run.count)).all(is_vault_cell)
+}
+
+impl<'a> Runs<'a> {
+    // All of them, behind their count.
+    pub(crate) fn new(bytes: &'a [u8]) -> Runs<'a>
+        ensures { ahead result ≡ taken bytes.now }
+    {
+        Runs {
+            rest: bytes.get(2..).unwrap_or_default(),
+            least: 0,
+            room: 512,
+        }
+    }
+
+    // Whether a run may come next.
+    fn takes(&self, run: Run) -> bool
+        ensures { result ≡ fits self.now.least self.now.room run }
+    {
+        let in_order = self.least <= u32::from(run.first);
+        let few = 0 < run.count && u32::from(run.count) <= self.room;
+        in_order && few && are_vault_cells(run)
+    }
+}
+
+// The next run may not touch the one that came.
+impl Iterator for Runs<'_> {
+    type Item = Run;
+
+    ghost next_gives = { YieldsFirst ahead };
+
+    ghost remaining = { item_count ahead };
+
+    fn next(&mut self) -> Option<Run> {
+        let (bytes, rest) = self.rest.split_first_chunk()?;
+        let run = Run::from(*bytes);
+        if !self.takes(run) {
+            return None;
+        }
+        self.rest = rest;
+        self.least = u32::from(run.first) + u32::from(run.count) + 1;
+        self.room -= u32::from(run.count);
+        Some(run)
+    }
+}
