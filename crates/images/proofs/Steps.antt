@@ -1,7 +1,9 @@
 -- One step of a walk over the cells of a run, or over the runs in bytes.
 use Rattle.std.proofs.Common.{◌≡◌, ℕ, zero, suc, ◌+◌, ◌-◌, ◌*◌, ◌<◌, ◌≤◌, Bool, true, false, ◌&&◌, ◌||◌, eqb, ltb, leb, List, [], ◌∷◌, ◌++◌, length, take, drop, sym, refl, ap, ◌∙◌, subst, ⊎_elim, add-one, arith, length-append, length-drop}
 use Rattle.std.specs.Prelude.{⊤, Some}
-use Rattle.std.specs.Iterator.{MakesProgress, item_count}
+use Rattle.std.specs.Iterator.{MakesProgress, YieldsFirst, item_count}
+use Rattle.std.specs.Iterator.Runs.{YieldsInOrder}
+use Rattle.std.proofs.iter.runs.Sources.{from_front, as_is}
 use Rattle.std.specs.List.{list_all, list_any, range_with_len, sum_by}
 use Rattle.std.proofs.lemmas.List.Sums.{sum_by-cons}
 use Rattle.std.proofs.lemmas.Bool.{cond-true, cases_eq, cases_Bool, eq-eqb, ne_eqb, eqb-true, and_from, and_right, or_left, both_ways}
@@ -9,7 +11,8 @@ use Rattle.std.proofs.lemmas.Bool.Decides.{nat_tests}
 use Rattle.terms.specs.declared.edges.Edge.{Edge}
 use Rattle.terms.specs.Graph.{vault_edge, same}
 use Rattle.model.specs.EdgeSets.{Edges, all_vault, has}
-use Rattle.model.specs.Cells.{edge_at}
+use Rattle.model.specs.Cells.{cell, edge_at}
+use Rattle.model.proofs.Cells.{cell_within, cell_edge}
 use Rattle.model.proofs.Members.{vault_member}
 use Rattle.formats.specs.declared.runs.Run.{Run}
 use Rattle.formats.specs.Runs.{run, along, edges_of, edges_in, spans, next, fits, all_fit, front}
@@ -82,6 +85,10 @@ module _ (s t : Runs) (r : Run) (h : 4 ≤ length s.rest.now) (is : r ≡ run_at
   pub progress : MakesProgress (λ _. ⊤) (item_count ahead) s (Some r) t
   progress = record { on = λ _. (tt, tt, omega (arith, ap length goes)); keeps = tt; rests = λ _. tt }
 
+-- the runs come in order
+pub in_order : YieldsInOrder (YieldsFirst ahead) ahead
+in_order p seen = as_is p (ahead p.from) (from_front (YieldsFirst ahead) (λ r. r) ahead (λ s t h. ap length h.0) (λ s r t h. h) p seen)
+
 -- Runs that are taken
 
 -- the edges of runs are as many as their cells
@@ -91,12 +98,22 @@ length_edges (r ∷ rs) =
     length-append (edges_of r) (edges_in rs) ∙ ap (λ (n : ℕ). n + length (edges_in rs)) (length_along r.first r.count)
     ∙ ap (λ (n : ℕ). r.count + n) (length_edges rs) ∙ sym (sum_by-cons (λ r. r.count) r rs)
 
+pub cells_held : (bs : List ℕ) → length (held bs) ≡ sum_by (λ r. r.count) (taken bs)
+cells_held bs = length_edges (taken bs)
+
+pub cells_taken : (bs : List ℕ) → sum_by (λ r. r.count) (taken bs) ≤ 512
+cells_taken bs = omega (arith, cells_held bs, (held_table bs).few)
+
 -- and one of them is the edge of a cell just when one of the runs spans it
 pub has_edges : (c : ℕ) (rs : List Run) → list_any (λ r. spans r c) rs ≡ has (edges_in rs) (edge_at c)
 has_edges c [] = refl
 has_edges c (r ∷ rs) =
     ap (λ (b : Bool). spans r c || b) (has_edges c rs) ∙ ap (λ (b : Bool). b || has (edges_in rs) (edge_at c)) (sym (has_along r.first r.count c))
     ∙ sym (has_both (edges_of r) (edges_in rs) (edge_at c))
+
+-- a vault edge is held just when one of the runs spans its cell
+pub held_spanned : (bs : List ℕ) (e : Edge) → vault_edge e ≡ true → has (held bs) e ≡ list_any (λ r. spans r (cell e)) (taken bs)
+held_spanned bs e v = ap (has (held bs)) (sym (cell_edge e (cell_within e v).1)) ∙ sym (has_edges (cell e) (taken bs))
 
 -- each run that fits has an edge
 few_fit : (n m : ℕ) (rs : List Run) → all_fit n m rs ≡ true → length rs ≤ m

@@ -53,10 +53,12 @@ impl<'a> Reader for Image<'a> {
 
     ghost table = { λ i. held_table i.bytes.now };
 
+    #[tactic(auto, using(crate::proofs::Steps::held_no_other))]
     fn holds(&self, edge: Edge) -> bool {
         edge.is_vault_edge() && Runs::new(self.bytes).any(|run| run.spans(cell_of(edge)))
     }
 
+    #[tactic(auto, using(crate::proofs::Steps::cells_held))]
     fn count(&self) -> usize {
         Runs::new(self.bytes)
             .map(|run| usize::from(run.count))

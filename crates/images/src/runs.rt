@@ -1,5 +1,6 @@
-ghost use Rattle.std.specs.Prelude.{◌≡◌};
+ghost use Rattle.std.specs.Prelude.{◌≡◌, ◌≤◌, length};
 ghost use Rattle.std.specs.Iterator.{YieldsFirst, item_count};
+ghost use Rattle.std.specs.Iterator.Runs.{YieldsInOrder};
 ghost use Rattle.model.specs.EdgeSets.{all_vault};
 ghost use Rattle.formats.specs.Runs.{edges_of, fits};
 ghost use Rattle.formats.specs.Images.{taken};
@@ -29,7 +30,9 @@ fn are_vault_cells(run: Run) -> bool
 impl<'a> Runs<'a> {
     // All of them, behind their count.
     pub(crate) fn new(bytes: &'a [u8]) -> Runs<'a>
-        ensures { ahead result ≡ taken bytes.now }
+        ensures all { ahead result ≡ taken bytes.now }
+        ensures few { length (ahead result) ≤ 512 }
+        ensures in_order { YieldsInOrder (YieldsFirst ahead) ahead }
     {
         Runs {
             rest: bytes.get(2..).unwrap_or_default(),

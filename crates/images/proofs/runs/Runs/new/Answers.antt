@@ -6,6 +6,7 @@ use Rattle.std.proofs.Math.ListN.{drop_of_length-le}
 use Rattle.std.proofs.Math.Seq.{take-length}
 use Rattle.formats.specs.Runs.{front}
 use Rattle.formats.specs.Images.{runs_in}
+use Rattle.images.proofs.Steps.{in_order, few_taken}
 use Rattle.images.proofs.runs.Runs.new.Goals as goal
 
 -- what is behind the first two bytes, or nothing
@@ -16,4 +17,7 @@ behind bs (Some x) r h u =
     ap (λ (y : Bor (List ℕ)). y.now) u ∙ part ∙ ap (λ n. take n (drop 2 bs)) (sym (length-drop 2 bs)) ∙ take-length (drop 2 bs)
 
 pub returns : goal.returns
-returns c = ap (λ (bs : List ℕ). front 0 512 (runs_in bs)) (behind _ _ _ c.get.ensures.lookup c.unwrap_or_default.ensures)
+returns c =
+    let bs = c.args.bytes.now in
+    let all = ap (λ (rest : List ℕ). front 0 512 (runs_in rest)) (behind bs _ _ c.get.ensures.lookup c.unwrap_or_default.ensures) in
+    record { all = all; few = omega (arith, ap length all, few_taken bs); in_order = in_order }
