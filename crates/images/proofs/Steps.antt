@@ -111,10 +111,6 @@ has_edges c (r ∷ rs) =
     ap (λ (b : Bool). spans r c || b) (has_edges c rs) ∙ ap (λ (b : Bool). b || has (edges_in rs) (edge_at c)) (sym (has_along r.first r.count c))
     ∙ sym (has_both (edges_of r) (edges_in rs) (edge_at c))
 
--- a vault edge is held just when one of the runs spans its cell
-pub held_spanned : (bs : List ℕ) (e : Edge) → vault_edge e ≡ true → has (held bs) e ≡ list_any (λ r. spans r (cell e)) (taken bs)
-held_spanned bs e v = ap (has (held bs)) (sym (cell_edge e (cell_within e v).1)) ∙ sym (has_edges (cell e) (taken bs))
-
 -- each run that fits has an edge
 few_fit : (n m : ℕ) (rs : List Run) → all_fit n m rs ≡ true → length rs ≤ m
 few_fit n m [] h = omega arith
@@ -124,6 +120,9 @@ pub few_taken : (bs : List ℕ) → length (taken bs) ≤ 512
 few_taken bs = few_fit 0 512 (taken bs) (front_fits 0 512 (runs_in (drop 2 bs)))
 
 -- Sets that bytes hold
+
+pub held_at : (bs : List ℕ) (e : Edge) (c : ℕ) → c ≡ cell e → vault_edge e ≡ true → has (held bs) (edge_at c) ≡ has (held bs) e
+held_at bs e c is v = ap (has (held bs)) (ap edge_at is ∙ cell_edge e (cell_within e v).1)
 
 pub held_no_other : (bs : List ℕ) (e : Edge) → vault_edge e ≡ false → has (held bs) e ≡ false
 held_no_other bs e n =

@@ -1,5 +1,6 @@
 ghost use Rattle.std.specs.Prelude.{◌≡◌, true, false, MatchResult};
 ghost use Rattle.model.specs.EdgeSets.{has};
+ghost use Rattle.model.specs.Cells as cells;
 ghost use Rattle.faults.specs.declared.image.ImageFault.TheVariants.{NoImage};
 ghost use Rattle.formats.specs.Images.{held, counted, accepted, Judged, IsImage, IsNoImage};
 ghost use Rattle.formats.proofs.Rounds.{held_table};
@@ -34,6 +35,13 @@ fn is_image(bytes: &[u8]) -> bool
     is_counted(bytes) && bytes.len() == 2 + 4 * Runs::new(bytes).count()
 }
 
+// Whether bytes hold the edge of a cell.
+fn holds_cell(bytes: &[u8], cell: u32) -> bool
+    ensures { result ≡ has (held bytes.now) (cells.edge_at cell) }
+{
+    Runs::new(bytes).any(|run| run.spans(cell))
+}
+
 impl<'a> Image<'a> {
     // The table whose image the bytes are, to the last one. Refused if they are the image of no set
     // of at most 512 vault edges.
@@ -53,9 +61,9 @@ impl<'a> Reader for Image<'a> {
 
     ghost table = { λ i. held_table i.bytes.now };
 
-    #[tactic(auto, using(crate::proofs::Steps::held_no_other))]
+    #[tactic(auto, using(crate::proofs::Steps::held_at, crate::proofs::Steps::held_no_other))]
     fn holds(&self, edge: Edge) -> bool {
-        edge.is_vault_edge() && Runs::new(self.bytes).any(|run| run.spans(cell_of(edge)))
+        edge.is_vault_edge() && holds_cell(self.bytes, cell_of(edge))
     }
 
     #[tactic(auto, using(crate::proofs::Steps::cells_held))]
