@@ -1,35 +1,35 @@
 -- One step of a walk over the cells of a run, or over the runs in bytes.
-use Rattle.std.proofs.Common.{◌≡◌, ℕ, zero, suc, ◌+◌, ◌-◌, ◌*◌, ◌<◌, ◌≤◌, Bool, true, false, ◌&&◌, ◌||◌, eqb, ltb, leb, List, [], ◌∷◌, ◌++◌, length, get_or, drop, sym, refl, ap, ◌∙◌, subst, ⊎_elim, arith, length-append, length-drop}
-use Rattle.std.proofs.lemmas.List.{drop_more}
-use Rattle.std.proofs.lemmas.Bool.{cond-true, cond-false, cases_eq, cases_Bool, eq-eqb, ne_eqb, eqb-true, and_from, and_right, or_left, both_ways}
+use Rattle.std.proofs.Common.{◌≡◌, ℕ, zero, suc, ◌+◌, ◌-◌, ◌*◌, ◌<◌, ◌≤◌, Bool, true, false, ◌&&◌, ◌||◌, eqb, ltb, leb, List, [], ◌∷◌, ◌++◌, length, take, drop, sym, refl, ap, ◌∙◌, subst, ⊎_elim, add-one, arith, length-append, length-drop}
+use Rattle.std.specs.Prelude.{⊤, Some}
+use Rattle.std.specs.Iterator.{MakesProgress, YieldsFirst, item_count}
+use Rattle.std.specs.Iterator.Runs.{YieldsInOrder}
+use Rattle.std.proofs.iter.runs.Sources.{from_front, as_is}
+use Rattle.std.specs.List.{list_all, list_any, range_with_len, sum_by}
+use Rattle.std.proofs.lemmas.List.Sums.{sum_by-cons}
+use Rattle.std.proofs.lemmas.Bool.{cond-true, cases_eq, cases_Bool, eq-eqb, ne_eqb, eqb-true, and_from, and_right, or_left, both_ways}
 use Rattle.std.proofs.lemmas.Bool.Decides.{nat_tests}
 use Rattle.terms.specs.declared.edges.Edge.{Edge}
 use Rattle.terms.specs.Graph.{vault_edge, same}
 use Rattle.model.specs.EdgeSets.{Edges, all_vault, has}
-use Rattle.model.specs.Cells.{edge_at}
+use Rattle.model.specs.Cells.{cell, edge_at}
+use Rattle.model.proofs.Cells.{cell_within, cell_edge}
 use Rattle.model.proofs.Members.{vault_member}
 use Rattle.formats.specs.declared.runs.Run.{Run}
-use Rattle.formats.specs.Runs.{run, along, edges_of, edges_in, spans, fits, all_fit, front}
+use Rattle.formats.specs.Runs.{run, along, edges_of, edges_in, spans, next, fits, all_fit, front}
 use Rattle.formats.specs.Images.{word_at, run_at, runs_in, taken, held, counted, accepted}
 use Rattle.formats.proofs.Climbs.{cells_same, cells_differ, length_along}
-use Rattle.formats.proofs.Fits.{fits_parts, front_fits, front_all, front_long}
+use Rattle.formats.proofs.Fits.{all_parts, front_fits, front_all, front_long}
 use Rattle.formats.proofs.Rounds.{length_runs_in, held_table}
-use Rattle.images.specs.declared.cursor.Cursor.{Cursor}
-use Rattle.images.specs.Reading.{after_run, ahead, Ahead}
+use Rattle.images.specs.declared.runs.Runs.{Runs}
+use Rattle.images.specs.Reading.{ahead}
 
 -- Cells of a run
 
--- the cells from c to below n, if there are any
-along_more : (c n : ℕ) → c < n → along c (n - c) ≡ edge_at c ∷ along (suc c) (n - suc c)
-along_more c n h = ap (along c) (let e : n - c ≡ suc (n - suc c) = omega arith in e)
-
-pub vault_more : (c n : ℕ) → c < n → vault_edge (edge_at c) ≡ true → all_vault (along c (n - c)) ≡ all_vault (along (c + 1) (n - (c + 1)))
-vault_more c n h v =
-    ap all_vault (along_more c n h) ∙ ap (λ (b : Bool). b && all_vault (along (suc c) (n - suc c))) v
-    ∙ ap (λ (x : ℕ). all_vault (along x (n - x))) (let e : suc c ≡ c + 1 = omega arith in e)
-
-pub vault_stop : (c n : ℕ) → c < n → vault_edge (edge_at c) ≡ false → all_vault (along c (n - c)) ≡ false
-vault_stop c n h v = ap all_vault (along_more c n h) ∙ ap (λ (b : Bool). b && all_vault (along (suc c) (n - suc c))) v
+pub vault_along : (o n : ℕ) → list_all (λ c. vault_edge (edge_at c)) (range_with_len o n) ≡ all_vault (along o n)
+vault_along o zero = refl
+vault_along o (suc n) =
+    ap (λ (b : Bool). vault_edge (edge_at o) && b)
+    (ap (λ (c : ℕ). list_all (λ c. vault_edge (edge_at c)) (range_with_len c n)) (add-one o) ∙ vault_along (suc o) n)
 
 -- a run has the edge of a cell just when the cell is between its ends
 has_along : (o n c : ℕ) → has (along o n) (edge_at c) ≡ spans (run o n) c
@@ -66,78 +66,77 @@ runs_short (a ∷ b ∷ []) h = refl
 runs_short (a ∷ b ∷ c ∷ []) h = refl
 runs_short (a ∷ b ∷ c ∷ d ∷ s) h = absurd (let w : ⊥ = omega arith in w)
 
-runs_more : (bs : List ℕ) (i : ℕ) → i + 4 ≤ length bs → runs_in (drop i bs) ≡ run_at bs i ∷ runs_in (drop (i + 4) bs)
-runs_more bs i h =
-    let d₁ = drop_more bs i 0 (omega arith) in
-    let d₂ : drop (i + 1) bs ≡ get_or bs (i + 1) 0 ∷ drop (i + 2) bs = drop_more bs (i + 1) 0 (omega arith) ∙ ap (λ (n : ℕ). get_or bs (i + 1) 0 ∷ drop n bs) (omega arith) in
-    let d₃ : drop (i + 2) bs ≡ get_or bs (i + 2) 0 ∷ drop (i + 2 + 1) bs = drop_more bs (i + 2) 0 (omega arith) in
-    let d₄ : drop (i + 2 + 1) bs ≡ get_or bs (i + 2 + 1) 0 ∷ drop (i + 4) bs = drop_more bs (i + 2 + 1) 0 (omega arith) ∙ ap (λ (n : ℕ). get_or bs (i + 2 + 1) 0 ∷ drop n bs) (omega arith) in
-    rw (d₁, d₂, d₃, d₄)
+runs_more : (bs : List ℕ) → 4 ≤ length bs → runs_in bs ≡ run_at (take 4 bs) 0 ∷ runs_in (drop 4 bs)
+runs_more [] h = absurd (let w : ⊥ = omega arith in w)
+runs_more (a ∷ []) h = absurd (let w : ⊥ = omega arith in w)
+runs_more (a ∷ b ∷ []) h = absurd (let w : ⊥ = omega arith in w)
+runs_more (a ∷ b ∷ c ∷ []) h = absurd (let w : ⊥ = omega arith in w)
+runs_more (a ∷ b ∷ c ∷ d ∷ s) h = refl
 
--- no run is left, or what is there does not fit, or it is the next
-pub none_left : (bs : List ℕ) (at : Cursor) → length bs < at.place + 4 → ahead bs at ≡ []
-none_left bs at h = ap (front at.least at.room) (runs_short (drop at.place bs) (omega (arith, length-drop at.place bs)))
+-- a run that fits comes next, and is then behind
+module _ (s t : Runs) (r : Run) (h : 4 ≤ length s.rest.now) (is : r ≡ run_at (take 4 s.rest.now) 0) (f : fits s.least s.room r ≡ true)
+    (rest : t.rest.now ≡ drop 4 s.rest.now) (least : t.least ≡ next r) (room : t.room ≡ s.room - r.count) where
+  here : runs_in s.rest.now ≡ r ∷ runs_in (drop 4 s.rest.now)
+  here = runs_more s.rest.now h ∙ ap (λ (x : Run). x ∷ runs_in (drop 4 s.rest.now)) (sym is)
 
-module _ (bs : List ℕ) (at : Cursor) (r : Run) (h : at.place + 4 ≤ length bs) (is : r ≡ run_at bs at.place) where
-  here : runs_in (drop at.place bs) ≡ r ∷ runs_in (drop (at.place + 4) bs)
-  here = runs_more bs at.place h ∙ ap (λ (x : Run). x ∷ runs_in (drop (at.place + 4) bs)) (sym is)
+  goes : ahead s ≡ r ∷ ahead t
+  goes = ap (front s.least s.room) here ∙ cond-true _ _ _ f ∙ rw (rest, least, room)
 
-  pub none_fits : fits at.least at.room r ≡ false → ahead bs at ≡ []
-  none_fits f = ap (front at.least at.room) here ∙ cond-false _ _ _ f
+  pub progress : MakesProgress (λ _. ⊤) (item_count ahead) s (Some r) t
+  progress = record { on = λ _. (tt, tt, omega (arith, ap length goes)); keeps = tt; rests = λ _. tt }
 
-  pub one_fits : fits at.least at.room r ≡ true → Ahead bs at r
-  one_fits f = record {
-    within = h;
-    room = (fits_parts at.least at.room r f).few;
-    goes = ap (front at.least at.room) here ∙ cond-true _ _ _ f;
-  }
+-- the runs come in order
+pub in_order : YieldsInOrder (YieldsFirst ahead) ahead
+in_order p seen = as_is p (ahead p.from) (from_front (YieldsFirst ahead) (λ r. r) ahead (λ s t h. ap length h.0) (λ s r t h. h) p seen)
 
--- what one run adds
-length_step : (bs : List ℕ) (at : Cursor) (r : Run) → Ahead bs at r → length (edges_in (ahead bs at)) ≡ r.count + length (edges_in (ahead bs (after_run at r)))
-length_step bs at r a =
-    ap (λ (rs : List Run). length (edges_in rs)) a.goes ∙ length-append (edges_of r) (edges_in (ahead bs (after_run at r)))
-    ∙ ap (λ (x : ℕ). x + length (edges_in (ahead bs (after_run at r)))) (length_along r.first r.count)
+-- Runs that are taken
 
-has_step : (bs : List ℕ) (at : Cursor) (r : Run) (c : ℕ) → Ahead bs at r
-    → has (edges_in (ahead bs at)) (edge_at c) ≡ (spans r c || has (edges_in (ahead bs (after_run at r))) (edge_at c))
-has_step bs at r c a =
-    ap (λ (rs : List Run). has (edges_in rs) (edge_at c)) a.goes ∙ has_both (edges_of r) (edges_in (ahead bs (after_run at r))) (edge_at c)
-    ∙ ap (λ (b : Bool). b || has (edges_in (ahead bs (after_run at r))) (edge_at c)) (has_along r.first r.count c)
+-- the edges of runs are as many as their cells
+pub length_edges : (rs : List Run) → length (edges_in rs) ≡ sum_by (λ r. r.count) rs
+length_edges [] = refl
+length_edges (r ∷ rs) =
+    length-append (edges_of r) (edges_in rs) ∙ ap (λ (n : ℕ). n + length (edges_in rs)) (length_along r.first r.count)
+    ∙ ap (λ (n : ℕ). r.count + n) (length_edges rs) ∙ sym (sum_by-cons (λ r. r.count) r rs)
 
--- the reader did not come to the edge of a cell yet
-abbrev pub Seeks : List ℕ → ℕ → Cursor → Type 0
-Seeks bs c at = has (edges_in (ahead bs at)) (edge_at c) ≡ has (held bs) (edge_at c)
+pub cells_held : (bs : List ℕ) → length (held bs) ≡ sum_by (λ r. r.count) (taken bs)
+cells_held bs = length_edges (taken bs)
 
-pub seeks_here : (bs : List ℕ) (c : ℕ) (at : Cursor) (r : Run) → Ahead bs at r → true ≡ spans r c → Seeks bs c at → true ≡ has (held bs) (edge_at c)
-seeks_here bs c at r a e h = sym (sym h ∙ has_step bs at r c a ∙ or_left _ _ (sym e))
+pub cells_taken : (bs : List ℕ) → sum_by (λ r. r.count) (taken bs) ≤ 512
+cells_taken bs = omega (arith, cells_held bs, (held_table bs).few)
 
-pub seeks_past : (bs : List ℕ) (c : ℕ) (at : Cursor) (r : Run) → Ahead bs at r → false ≡ spans r c → Seeks bs c at → Seeks bs c (after_run at r)
-seeks_past bs c at r a e h = ap (λ (b : Bool). b || has (edges_in (ahead bs (after_run at r))) (edge_at c)) e ∙ sym (has_step bs at r c a) ∙ h
+-- and one of them is the edge of a cell just when one of the runs spans it
+pub has_edges : (c : ℕ) (rs : List Run) → list_any (λ r. spans r c) rs ≡ has (edges_in rs) (edge_at c)
+has_edges c [] = refl
+has_edges c (r ∷ rs) =
+    ap (λ (b : Bool). spans r c || b) (has_edges c rs) ∙ ap (λ (b : Bool). b || has (edges_in rs) (edge_at c)) (sym (has_along r.first r.count c))
+    ∙ sym (has_both (edges_of r) (edges_in rs) (edge_at c))
 
--- the reader went over some runs, and so many edges
-abbrev pub Reached : List ℕ → Cursor → Type 0
-Reached bs at =
-    (at.place + 4 * length (ahead bs at) ≡ 2 + 4 * length (taken bs))
-    × (at.room + length (held bs) ≡ 512 + length (edges_in (ahead bs at)))
+-- each run that fits has an edge
+few_fit : (n m : ℕ) (rs : List Run) → all_fit n m rs ≡ true → length rs ≤ m
+few_fit n m [] h = omega arith
+few_fit n m (r ∷ rs) h = let (f, more) = all_parts n m r rs h in omega (arith, f.some, f.few, few_fit (next r) (m - r.count) rs more)
 
-pub reached_past : (bs : List ℕ) (at : Cursor) (r : Run) → Ahead bs at r → Reached bs at → Reached bs (after_run at r)
-reached_past bs at r a h = (omega (arith, ap length a.goes, h.0), omega (arith, length_step bs at r a, a.room, h.1))
+pub few_taken : (bs : List ℕ) → length (taken bs) ≤ 512
+few_taken bs = few_fit 0 512 (taken bs) (front_fits 0 512 (runs_in (drop 2 bs)))
 
 -- Sets that bytes hold
+
+pub held_at : (bs : List ℕ) (e : Edge) (c : ℕ) → c ≡ cell e → vault_edge e ≡ true → has (held bs) (edge_at c) ≡ has (held bs) e
+held_at bs e c is v = ap (has (held bs)) (ap edge_at is ∙ cell_edge e (cell_within e v).1)
 
 pub held_no_other : (bs : List ℕ) (e : Edge) → vault_edge e ≡ false → has (held bs) e ≡ false
 held_no_other bs e n =
     ⊎_elim (λ (h : has (held bs) e ≡ true). absurd (both_ways (vault_edge e) n (vault_member e (held bs) (held_table bs).vault h))) (λ h. h) (cases_Bool (has (held bs) e))
 
--- the reader is at the end of the bytes just when all runs fit
-pub all_read : (bs : List ℕ) (place : ℕ) → counted bs ≡ true → place ≡ 2 + 4 * length (taken bs) → accepted bs ≡ eqb place (length bs)
-all_read bs place n at =
+-- bytes are an image just when they end with the last of the runs that are taken
+pub all_read : (bs : List ℕ) → counted bs ≡ true → accepted bs ≡ eqb (length bs) (2 + 4 * length (taken bs))
+all_read bs n =
     let rs = runs_in (drop 2 bs) in
     let long : length bs ≡ 2 + 4 * word_at bs 0 = eqb-true (length bs) (2 + 4 * word_at bs 0) n in
     let many : length rs ≡ word_at bs 0 = length_runs_in (drop 2 bs) (word_at bs 0) (omega (arith, length-drop 2 bs)) in
     ⊎_elim
-    (λ (y : all_fit 0 512 rs ≡ true). and_from _ _ n y ∙ sym (eq-eqb place (length bs) (omega (arith, ap length (front_all 0 512 rs y)))))
+    (λ (y : all_fit 0 512 rs ≡ true). and_from _ _ n y ∙ sym (eq-eqb (length bs) (2 + 4 * length (taken bs)) (omega (arith, ap length (front_all 0 512 rs y)))))
     (λ (x : all_fit 0 512 rs ≡ false).
     and_right _ _ x
-    ∙ sym (ne_eqb place (length bs) (λ e. both_ways (all_fit 0 512 rs) x (subst (λ (ts : List Run). all_fit 0 512 ts ≡ true) (front_long 0 512 rs (omega arith)) (front_fits 0 512 rs)))))
+    ∙ sym (ne_eqb (length bs) (2 + 4 * length (taken bs)) (λ e. both_ways (all_fit 0 512 rs) x (subst (λ (ts : List Run). all_fit 0 512 ts ≡ true) (front_long 0 512 rs (omega arith)) (front_fits 0 512 rs)))))
     (cases_Bool (all_fit 0 512 rs))

@@ -15,13 +15,6 @@ pub(crate) fn edge_at(cell: u32) -> Edge
     }
 }
 
-// The cell of an edge.
-pub(crate) fn cell_of(edge: Edge) -> u32
-    ensures { result ≡ cells.cell edge }
-{
-    edge.from as u32 * 256 + edge.to as u32
-}
-
 // Whether a cell is that of a vault edge.
 pub(crate) fn is_vault_cell(cell: u32) -> bool
     requires { cell < 2 ^ 24 }

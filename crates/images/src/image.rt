@@ -1,13 +1,13 @@
-ghost use Rattle.std.specs.Prelude.{◌≡◌, ◌+◌, ◌*◌, true, false, length, MatchResult};
+ghost use Rattle.std.specs.Prelude.{◌≡◌, true, false, MatchResult};
 ghost use Rattle.model.specs.EdgeSets.{has};
 ghost use Rattle.model.specs.Cells as cells;
 ghost use Rattle.faults.specs.declared.image.ImageFault.TheVariants.{NoImage};
-ghost use Rattle.formats.specs.Images.{taken, held, counted, accepted, Judged, IsImage, IsNoImage};
+ghost use Rattle.formats.specs.Images.{held, counted, accepted, Judged, IsImage, IsNoImage};
 ghost use Rattle.formats.proofs.Rounds.{held_table};
 
-use crate::cells::cell_of;
-use crate::cursor::{Cursor, in_run, word};
+use crate::runs::Runs;
 use faults::image::ImageFault;
+use model::cell::cell_of;
 use stores::store::Reader;
 use terms::edges::Edge;
 
@@ -18,51 +18,28 @@ pub struct Image<'a> {
     pub(crate) bytes: &'a [u8],
 }
 
-// Where a reader stands after all runs that fit.
-fn end_of_runs(bytes: &[u8]) -> Cursor
-    ensures runs { result.place ≡ 2 + 4 * length (taken bytes.now) }
-    ensures edges { result.room + length (held bytes.now) ≡ 512 }
-{
-    let mut at = Cursor::start();
-    while let Some(run) = at.next_run(bytes) {
-        at = at.past(run);
-    }
-    at
-}
-
-// Whether bytes hold the edge of a cell.
-fn holds_cell(bytes: &[u8], cell: u32) -> bool
-    ensures { result ≡ has (held bytes.now) (cells.edge_at cell) }
-{
-    let mut at = Cursor::start();
-    while let Some(run) = at.next_run(bytes) {
-        if in_run(run, cell) {
-            return true;
-        }
-        at = at.past(run);
-    }
-    false
-}
-
-// Whether bytes hold an edge; they hold none but vault edges.
-fn holds_edge(bytes: &[u8], edge: Edge) -> bool
-    ensures { result ≡ has (held bytes.now) edge }
-{
-    edge.is_vault_edge() && holds_cell(bytes, cell_of(edge))
-}
-
 // Whether bytes are as long as their count of runs says.
 fn is_counted(bytes: &[u8]) -> bool
     ensures { result ≡ counted bytes.now }
 {
-    bytes.len() >= 2 && bytes.len() == 2 + 4 * word(bytes, 0) as usize
+    match bytes.first_chunk() {
+        Some(count) => bytes.len() == 2 + 4 * usize::from(u16::from_be_bytes(*count)),
+        None => false,
+    }
 }
 
 // Whether bytes are the image of a set of at most 512 vault edges.
 fn is_image(bytes: &[u8]) -> bool
     ensures { Judged bytes.now result }
 {
-    is_counted(bytes) && end_of_runs(bytes).place == bytes.len()
+    is_counted(bytes) && bytes.len() == 2 + 4 * Runs::new(bytes).count()
+}
+
+// Whether bytes hold the edge of a cell.
+fn holds_cell(bytes: &[u8], cell: u32) -> bool
+    ensures { result ≡ has (held bytes.now) (cells.edge_at cell) }
+{
+    Runs::new(bytes).any(|run| run.spans(cell))
 }
 
 impl<'a> Image<'a> {
@@ -84,11 +61,15 @@ impl<'a> Reader for Image<'a> {
 
     ghost table = { λ i. held_table i.bytes.now };
 
+    #[tactic(auto, using(crate::proofs::Steps::held_at, crate::proofs::Steps::held_no_other))]
     fn holds(&self, edge: Edge) -> bool {
-        holds_edge(self.bytes, edge)
+        edge.is_vault_edge() && holds_cell(self.bytes, cell_of(edge))
     }
 
+    #[tactic(auto, using(crate::proofs::Steps::cells_held))]
     fn count(&self) -> usize {
-        512 - end_of_runs(self.bytes).room as usize
+        Runs::new(self.bytes)
+            .map(|run| usize::from(run.count))
+            .sum()
     }
 }

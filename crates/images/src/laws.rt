@@ -2,8 +2,6 @@
 ghost use Rattle.formats.specs.Images.{ImagesStand};
 
 // Writing an image and reading it undo each other.
-pub fn images_stand() -> u8
+pub fn images_stand()
     ensures { ImagesStand }
-{
-    0
-}
+{}

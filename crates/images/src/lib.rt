@@ -1,7 +1,7 @@
 #![tactic(auto)]
 
 mod cells;
-mod cursor;
 pub mod image;
 pub mod laws;
+mod runs;
 pub mod writer;

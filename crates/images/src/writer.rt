@@ -1,6 +1,7 @@
-ghost use Rattle.std.specs.Prelude.{◌≡◌, ◌+◌, ◌*◌, ◌<◌, ◌≤◌, length, MatchResult};
+ghost use Rattle.std.specs.Prelude.{◌≡◌, ℕ, ◌+◌, ◌*◌, ◌<◌, ◌≤◌, ◌++◌, None, length, drop, IfSome, MatchResult};
 ghost use Rattle.faults.specs.declared.image.ImageFault.TheVariants.{NoRoom};
-ghost use Rattle.images.specs.Writing.{with_word, with_run, Closed, Drawn, Written};
+ghost use Rattle.formats.specs.Images.{word};
+ghost use Rattle.images.specs.Writing.{lengthened, Meets, Closed, Written};
 
 use crate::cells::edge_at;
 use faults::image::ImageFault;
@@ -11,72 +12,63 @@ use stores::store::Reader;
 const LONGEST: usize = 2050;
 
 // The cells of users and roles; no other is the cell of an edge.
-const CELLS: usize = 32768;
+const CELLS: u16 = 32768;
 
-// An image that is being written: how many runs stand in it, and how many cells the last run has,
-// which is not yet written since more may follow.
-#[derive(Clone, Copy)]
-struct Draft {
-    runs: usize,
-    pending: usize,
+// An image that is being written: where it stands, how many runs are written, and the last run,
+// which is not yet written since more cells may follow.
+#[derive(Drop)]
+struct Draft<'a> {
+    out: &'a mut [u8],
+    runs: u16,
+    pending: Option<Run>,
 }
 
-// Writes a number into two bytes, the high one first.
-fn put_word(out: &mut [u8], at: usize, number: u16)
-    requires { at + 1 < length out.old }
-    ensures { out.new ≡ with_word out.old at number }
-{
-    out[at] = (number / 256) as u8;
-    out[at + 1] = (number % 256) as u8;
-}
-
-// Writes a run into four bytes.
-fn put_run(out: &mut [u8], at: usize, run: Run)
-    requires { at + 3 < length out.old }
-    ensures { out.new ≡ with_run out.old at run }
-{
-    put_word(out, at, run.first);
-    put_word(out, at + 2, run.count);
-}
-
-// Ends the pending run before a cell, and writes it after the others. With no cells it is none.
-fn close(out: &mut [u8], draft: Draft, cell: usize) -> Draft
-    requires cells { draft.pending ≤ cell }
-    requires small { cell ≤ 32768 }
-    requires room { 0 < draft.pending → 2 + 4 * draft.runs + 3 < length out.old }
-    ensures { Closed draft cell out.old out.new result }
-{
-    if draft.pending == 0 {
-        return draft;
+impl Draft<'_> {
+    // A cell follows those of the pending run, or begins one.
+    fn push(&mut self, cell: u16)
+        requires small { cell < 32768 }
+        requires next { Meets self.old.pending cell }
+        ensures same_reference { self.new.out.ghost_name ≡ self.old.out.ghost_name }
+        ensures same_bytes { self.new.out.now ≡ self.old.out.now }
+        ensures same_runs { self.new.runs ≡ self.old.runs }
+        ensures longer { self.new.pending ≡ lengthened self.old.pending cell }
+    {
+        let run = self.pending.unwrap_or(Run {
+            first: cell,
+            count: 0,
+        });
+        self.pending = Some(Run {
+            count: run.count + 1,
+            ..run
+        });
     }
-    let run = Run {
-        first: (cell - draft.pending) as u16,
-        count: draft.pending as u16,
-    };
-    put_run(out, 2 + 4 * draft.runs, run);
-    Draft {
-        runs: draft.runs + 1,
-        pending: 0,
-    }
-}
 
-// Writes the runs of a table behind the place of their count, and tells how many they are.
-fn write_runs<R: Reader>(table: &R, out: &mut [u8]) -> usize
-    requires { 2050 ≤ length out.old }
-    ensures { Drawn (R.edges table.now) out.old out.new result }
-{
-    let mut draft = Draft {
-        runs: 0,
-        pending: 0,
-    };
-    for cell in 0..CELLS {
-        if table.holds(edge_at(cell as u32)) {
-            draft.pending += 1;
-        } else {
-            draft = close(out, draft, cell);
+    // Writes the pending run, if there is one, after the others.
+    fn close(&mut self)
+        requires wide { 2050 ≤ length self.old.out.now }
+        requires few { IfSome self.old.pending (λ _. self.old.runs < 512) }
+        ensures same_reference { self.new.out.ghost_name ≡ self.old.out.ghost_name }
+        ensures same_length { length self.new.out.now ≡ length self.old.out.now }
+        ensures none { self.new.pending ≡ None }
+        ensures closed { Closed self.old.pending self.old.runs self.old.out.now self.new.runs self.new.out.now }
+    {
+        if let Some(run) = self.pending.take() {
+            let place = 2 + 4 * usize::from(self.runs);
+            self.out[place..place + 4].copy_from_slice(&<[u8; 4]>::from(run));
+            self.runs += 1;
         }
     }
-    close(out, draft, CELLS).runs
+
+    // Writes the count of the runs in front of them, and tells how long the image is.
+    fn finish(&mut self) -> usize
+        requires { 2 ≤ length self.old.out.now }
+        ensures same_reference { self.new.out.ghost_name ≡ self.old.out.ghost_name }
+        ensures long { result ≡ 2 + 4 * self.old.runs }
+        ensures counted { self.new.out.now ≡ word self.old.runs ++ drop 2 self.old.out.now }
+    {
+        self.out[..2].copy_from_slice(&self.runs.to_be_bytes());
+        2 + 4 * usize::from(self.runs)
+    }
 }
 
 // Writes the image of a table where there is room for any, and tells how long it is.
@@ -84,9 +76,20 @@ fn write_image<R: Reader>(table: &R, out: &mut [u8]) -> usize
     requires { 2050 ≤ length out.old }
     ensures { Written (R.edges table.now) out.old out.new result }
 {
-    let runs = write_runs(table, out);
-    put_word(out, 0, runs as u16);
-    2 + 4 * runs
+    let mut draft = Draft {
+        out,
+        runs: 0,
+        pending: None,
+    };
+    for cell in 0..CELLS {
+        if table.holds(edge_at(u32::from(cell))) {
+            draft.push(cell);
+        } else {
+            draft.close();
+        }
+    }
+    draft.close();
+    draft.finish()
 }
 
 // Writes the image of a table at the start of `out` and tells how long it is; no other byte is

@@ -1,12 +1,15 @@
-use Rattle.std.proofs.Common.{sym, subst}
-use Rattle.images.proofs.Steps.{Seeks, seeks_here, seeks_past}
+use Rattle.std.proofs.Common.{rules, ◌∙◌}
+use Rattle.std.proofs.lemmas.Iterator.Consumers.{YieldsList-from_first}
+use Rattle.std.proofs.lemmas.Iterator.Search.{any_from_yields_List}
+use Rattle.formats.specs.declared.runs.Run.{Run}
+use Rattle.formats.specs.Runs.{spans}
+use Rattle.formats.specs.Images.{taken}
+use Rattle.images.specs.Reading.{ahead}
+use Rattle.images.proofs.Steps.{has_edges}
 use Rattle.images.proofs.image.holds_cell.Goals as goal
 
-pub returns-then-in_run : goal.returns-then-in_run
-returns-then-in_run c =
-    seeks_here c.args.bytes.now c.args.cell c.loop-run.at c.in-Some.run' c.in-Some.ensures c.if-in_run.ensures c.loop-run.invariant
-
-pub loop-run-preserved : goal.loop-run-preserved
-loop-run-preserved c =
-    subst (Seeks c.args.bytes.now c.args.cell) (sym c.past-at.ensures)
-    (seeks_past c.args.bytes.now c.args.cell c.loop-run.at c.in-Some.run' c.in-Some.ensures c.if-in_run.ensures c.loop-run.invariant)
+pub returns : goal.returns
+returns c =
+    let runs = taken c.args.bytes.now in
+    any_from_yields_List (λ (r : Run). spans r c.args.cell) c.any.new.self _ c.any.result c.any.ensures.ran (YieldsList-from_first (λ r. r) ahead runs c.new.ensures.all) (λ r b f q. search rules)
+    ∙ has_edges c.args.cell runs
