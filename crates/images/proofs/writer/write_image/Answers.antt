@@ -8,13 +8,13 @@ use Rattle.images.proofs.writer.write_image.Goals.{then-holds, else-holds}
 
 pub loop-cell-init : goal.loop-cell-init
 loop-cell-init g c = record {
-  walk = walk_starts _ (g.R.Reader.table c.args.table.now) _ c.requires;
+  walk = walk_starts _ (g.met.R.Reader.table c.args.table.now) _ c.requires;
   wide = c.requires;
   same_reference = refl;
 }
 
 pub close-requires-clause-few : goal.close-requires-clause-few
-close-requires-clause-few g c = walk_room _ (g.R.Reader.table c.args.table.now) _ c.requires _ _ _ _ c.loop-cell.invariant.walk
+close-requires-clause-few g c = walk_room _ (g.met.R.Reader.table c.args.table.now) _ c.requires _ _ _ _ c.loop-cell.invariant.walk
 
 -- what the table says of the edge of a cell
 told : (s : Edges) (e : Edge) (c d : ℕ) (b : Bool) → d ≡ c → e ≡ edge_at d → b ≡ has s e → has s (edge_at c) ≡ b
@@ -23,7 +23,7 @@ told s e c d b same is h = sym (h ∙ ap (has s) (is ∙ ap edge_at same))
 pub loop-cell-preserved : goal.loop-cell-preserved
 loop-cell-preserved g c =
     let s = g.R.Reader.edges c.args.table.now in
-    let t = g.R.Reader.table c.args.table.now in
+    let t = g.met.R.Reader.table c.args.table.now in
     let d = c.loop-cell.draft in
     let i = c.loop-cell.invariant in
     elim c.if-holds.branch [
@@ -48,11 +48,11 @@ loop-cell-preserved g c =
     ]
 
 pub close-requires-2-clause-few : goal.close-requires-2-clause-few
-close-requires-2-clause-few g c = walk_room _ (g.R.Reader.table c.args.table.now) _ c.requires _ _ _ _ c.loop-cell.invariant.walk
+close-requires-2-clause-few g c = walk_room _ (g.met.R.Reader.table c.args.table.now) _ c.requires _ _ _ _ c.loop-cell.invariant.walk
 
 pub returns : goal.returns
 returns g c =
     let d = c.loop-cell.draft in
     let u = c.close-2.new.self in
-    walk_ends (g.R.Reader.edges c.args.table.now) (g.R.Reader.table c.args.table.now) c.args.out.now c.requires c.loop-cell.cell d.runs d.out.now u.runs u.out.now d.pending c.finish.result _
+    walk_ends (g.R.Reader.edges c.args.table.now) (g.met.R.Reader.table c.args.table.now) c.args.out.now c.requires c.loop-cell.cell d.runs d.out.now u.runs u.out.now d.pending c.finish.result _
     (omega arith) c.loop-cell.invariant.walk c.close-2.ensures.closed c.finish.ensures.long (search rules)
