@@ -55,6 +55,56 @@ bit_beyond a b j h l =
     by (suc zero) (suc (suc q)) h k = absurd (omega arith)
     by (suc (suc p)) q h k = absurd (omega arith)
 
+-- a role, by its bit
+pub place_of : (v : ℕ) → is_role v ≡ true → (v - 64 < 64) × (64 + (v - 64) ≡ v)
+place_of v r = (grind (arith, nat_tests), grind (arith, nat_tests))
+
+at_place : (w k : ℕ) → k < 64 → has_role w (64 + k) ≡ bit w k
+at_place w k l =
+    let r : is_role (64 + k) ≡ true = grind (arith, nat_tests) in
+    let e : 64 + k - 64 ≡ k = omega arith in
+    rw r (ap (bit w) e)
+
+-- sets of roles: none, one, two sets together
+pub has_none : (v : ℕ) → has_role 0 v ≡ false
+has_none v = and_right (is_role v) (bit 0 (v - 64)) (bit_none (v - 64))
+
+pub has_one : (v x : ℕ) → is_role v ≡ true → has_role (role_word v) x ≡ eqb x v
+has_one v x r = ⊎_elim same other (cases_eq x v)
+  where
+    one : role_word v ≡ 2 ^ (v - 64)
+    one = rw r
+
+    same : x ≡ v → has_role (role_word v) x ≡ eqb x v
+    same e = subst (λ (y : ℕ). has_role (role_word v) y ≡ eqb y v) (sym e)
+        (and_from (is_role v) _ r (ap (λ (n : ℕ). bit n (v - 64)) one ∙ bit_one (v - 64) (v - 64) ∙ eq-eqb _ _ refl) ∙ sym (eq-eqb v v refl))
+
+    other : x ≢ v → has_role (role_word v) x ≡ eqb x v
+    other n = ⊎_elim apart (λ f. and_left (is_role x) _ f) (cases_Bool (is_role x)) ∙ sym (ne_eqb x v n)
+      where
+        apart : is_role x ≡ true → has_role (role_word v) x ≡ false
+        apart q =
+            let m : x - 64 ≢ v - 64 = λ e. n (sym (place_of x q).1 ∙ ap (λ (k : ℕ). 64 + k) e ∙ (place_of v r).1) in
+            and_right (is_role x) _ (ap (λ (n : ℕ). bit n (x - 64)) one ∙ bit_one (v - 64) (x - 64) ∙ ne_eqb _ _ m)
+
+pub has_or : (a b v : ℕ) → has_role (bit_or a b) v ≡ (has_role a v || has_role b v)
+has_or a b v = ap (λ (x : Bool). is_role v && x) (bit_of_or a b (v - 64)) ∙ by (is_role v) (bit a (v - 64)) (bit b (v - 64))
+  where
+    by : (r x y : Bool) → (r && (x || y)) ≡ ((r && x) || (r && y))
+    by true x y = refl
+    by false x y = refl
+
+-- a set and one more role
+pub has_with : (w v x : ℕ) → is_role v ≡ true → has_role (bit_or w (role_word v)) x ≡ (has_role w x || eqb x v)
+has_with w v x r = has_or w (role_word v) x ∙ ap (λ (b : Bool). has_role w x || b) (has_one v x r)
+
+-- the roles of a row
+pub has_row : (s : Edges) (from w : ℕ) → Row s from w → (v : ℕ) → is_role v ≡ true → has_role w v ≡ has s (edge from v)
+has_row s from w row v r =
+    let p = place_of v r in
+    subst (λ (x : ℕ). has_role w x ≡ has s (edge from x)) p.1 (at_place w (v - 64) p.0 ∙ row (v - 64) p.0)
+
+-- what one set has beyond another
 role_beyond : (a b v : ℕ) → b < 2 ^ 64 → is_beyond a b v ≡ has_role (bit_and a (bit_not w64 b)) v
 role_beyond a b v h = by (is_role v) refl
   where
@@ -89,32 +139,12 @@ module _ (a b : ℕ) (g : a < 2 ^ 64) (h : b < 2 ^ 64) (q : bit_and a (bit_not w
   pub lowest_beyond : (x : ℕ) → x < 64 + count_trailing_zeros 64 (bit_and a (bit_not w64 b)) → is_beyond a b x ≡ false
   lowest_beyond = least.1
 
--- one role
-pub bit_of_role : (v j : ℕ) → is_role v ≡ true → bit (role_word v) j ≡ eqb (64 + j) v
-bit_of_role v j r = ap (λ (n : ℕ). bit n j) one ∙ bit_one (v - 64) j ∙ moved
-  where
-    one : role_word v ≡ 2 ^ (v - 64)
-    one = rw r
-
-    low : 64 ≤ v
-    low = grind (arith, nat_tests)
-
-    moved : eqb j (v - 64) ≡ eqb (64 + j) v
-    moved = ⊎_elim
-        (λ (e : 64 + j ≡ v). eq-eqb j (v - 64) (omega (arith, low)) ∙ sym (eq-eqb (64 + j) v e))
-        (λ (n : 64 + j ≢ v). ne_eqb j (v - 64) (λ e. n (omega (arith, low))) ∙ sym (ne_eqb (64 + j) v n))
-        (cases_eq (64 + j) v)
-
--- a set and one more role
-pub bit_with : (w v j : ℕ) → is_role v ≡ true → bit (bit_or w (role_word v)) j ≡ (bit w j || eqb (64 + j) v)
-bit_with w v j r = bit_of_or w (role_word v) j ∙ ap (λ (b : Bool). bit w j || b) (bit_of_role v j r)
-
 -- a row that is gathered role by role: those below v are in it
 pub record Gathered (s : Edges) (from v w : ℕ) : Type 0 where
-  pub bits : (j : ℕ) → bit w j ≡ (ltb (64 + j) v && has s (edge from (64 + j)))
+  pub held : (x : ℕ) → is_role x ≡ true → has_role w x ≡ (ltb x v && has s (edge from x))
 
 pub gathered_none : (s : Edges) (from : ℕ) → Gathered s from 64 0
-gathered_none s from = record { bits = λ j. let x : ltb (64 + j) 64 ≡ false = le-ltb (64 + j) 64 (omega arith) in bit_none j ∙ rw x }
+gathered_none s from = record { held = λ x r. let y : ltb x 64 ≡ false = le-ltb x 64 (grind (arith, nat_tests)) in has_none x ∙ rw y }
 
 -- one more number: it is in what is gathered, where it is the next and passes
 one_more : (p : ℕ → Bool) (c : Bool) (i v : ℕ) → c ≡ p v → ((ltb i v && p i) || (c && eqb i v)) ≡ (ltb i (v + 1) && p i)
@@ -142,13 +172,13 @@ one_more p c i v q = ⊎_elim same (⊎_elim less more) (cases_order i v)
 
 pub gathered_yes : {s : Edges} {from v w : ℕ} → Gathered s from v w → 64 ≤ v → v < 128 → has s (edge from v) ≡ true → Gathered s from (v + 1) (bit_or w (role_word v))
 gathered_yes {s} {from} {v} {w} g l m h = record {
-  bits = λ j. bit_with w v j (grind (arith, nat_tests)) ∙ ap (λ (b : Bool). b || eqb (64 + j) v) (g.bits j)
-      ∙ one_more (λ (i : ℕ). has s (edge from i)) true (64 + j) v (sym h);
+  held = λ x r. has_with w v x (grind (arith, nat_tests)) ∙ ap (λ (b : Bool). b || eqb x v) (g.held x r)
+      ∙ one_more (λ (i : ℕ). has s (edge from i)) true x v (sym h);
 }
 
 pub gathered_no : {s : Edges} {from v w : ℕ} → Gathered s from v w → has s (edge from v) ≡ false → Gathered s from (v + 1) w
 gathered_no {s} {from} {v} {w} g h = record {
-  bits = λ j. g.bits j ∙ sym (or_false _) ∙ one_more (λ (i : ℕ). has s (edge from i)) false (64 + j) v (sym h);
+  held = λ x r. g.held x r ∙ sym (or_false _) ∙ one_more (λ (i : ℕ). has s (edge from i)) false x v (sym h);
 }
   where
     or_false : (a : Bool) → (a || false) ≡ a
@@ -156,4 +186,6 @@ gathered_no {s} {from} {v} {w} g h = record {
     or_false false = refl
 
 pub gathered_all : {s : Edges} {from v w : ℕ} → Gathered s from v w → 128 ≤ v → Row s from w
-gathered_all {s} {from} {v} {w} g h j l = let y : ltb (64 + j) v ≡ true = lt-ltb (64 + j) v (omega arith) in g.bits j ∙ rw y
+gathered_all {s} {from} {v} {w} g h j l =
+    let y : ltb (64 + j) v ≡ true = lt-ltb (64 + j) v (omega arith) in
+    sym (at_place w j l) ∙ g.held (64 + j) (grind (arith, nat_tests)) ∙ rw y
