@@ -1,8 +1,10 @@
 -- The search through the roles finds what is reached, and nothing else.
-use Rattle.std.proofs.Common.{◌≡◌, ◌≢◌, ℕ, zero, suc, ◌+◌, ◌-◌, ◌^◌, ◌<◌, ◌≤◌, Bool, true, false, not, ◌&&◌, eqb, ◌⊎◌, bit_or, sym, refl, ap, ◌∙◌, subst, inl, inr, ⊎_elim, arith}
+use Rattle.std.proofs.Common.{◌≡◌, ◌≢◌, ℕ, zero, suc, ◌+◌, ◌-◌, ◌^◌, ◌<◌, ◌≤◌, Bool, true, false, not, ◌&&◌, eqb, ◌⊎◌, get_or, bit_or, sym, refl, ap, ◌∙◌, subst, inl, inr, ⊎_elim, arith}
 use Rattle.std.specs.List.{list_any, range_with_len}
+use Rattle.std.proofs.lemmas.List.Folds.{list_any_at}
+use Rattle.std.proofs.lemmas.List.FromFn.{length-range_with_len, get_or-range_with_len}
 use Rattle.std.proofs.lemmas.Nat.{le_or_l, or_lt, pow_below}
-use Rattle.std.proofs.lemmas.Bool.{false≢true, both_ways, not-true, not_from_false, true_from_ne_false, cases_eq, and_parts, and_from, or_cases, or_left, or_right, eqb-true, eq-eqb}
+use Rattle.std.proofs.lemmas.Bool.{false≢true, both_ways, not-true, not_from_false, true_from_ne_false, and_parts, and_from, or_cases, or_left, or_right, eqb-true, eq-eqb}
 use Rattle.std.proofs.lemmas.Bool.Decides.{nat_tests, same_from_decides}
 use Rattle.terms.specs.Graph.{edge, is_edge, is_role}
 use Rattle.model.specs.EdgeSets.{Edges, has, all_edges, ◌∈◌}
@@ -73,10 +75,7 @@ module _ {s : Edges} {w seen done : ℕ} (x : Searching s w seen done) (v : ℕ)
 
 -- from a role an edge goes to a role or to a privilege, and nothing leaves a privilege
 role_step : (s : Edges) → all_edges s ≡ true → (x y : ℕ) → edge x y ∈ s → (x < 128) × (64 ≤ y)
-role_step s f x y h = let e = edge_member (edge x y) s f h in ends e
-  where
-    ends : is_edge (edge x y) ≡ true → (x < 128) × (64 ≤ y)
-    ends e = (grind (arith, nat_tests), grind (arith, nat_tests))
+role_step s f x y h = let e : is_edge (edge x y) ≡ true = edge_member (edge x y) s f h in (grind (arith, nat_tests), grind (arith, nat_tests))
 
 -- a path to a role goes through roles
 to_role : (s : Edges) → all_edges s ≡ true → {x z : ℕ} → Reach s x z → z < 128 → x < 128
@@ -137,10 +136,7 @@ last_edge s (step {x = x} {z = z} e p) =
     ⊎_elim (λ q. inr (x, here, subst (λ (n : ℕ). edge x n ∈ s) q e)) (λ y. inr (y.0, step e y.1, y.2)) (last_edge s p)
 
 leaves_role : (s : Edges) → all_edges s ≡ true → (x b : ℕ) → is_role b ≡ false → edge x b ∈ s → (64 ≤ x) × (x < 128)
-leaves_role s f x b h e = ends (edge_member (edge x b) s f e)
-  where
-    ends : is_edge (edge x b) ≡ true → (64 ≤ x) × (x < 128)
-    ends i = (grind (arith, nat_tests), grind (arith, nat_tests))
+leaves_role s f x b h e = let i : is_edge (edge x b) ≡ true = edge_member (edge x b) s f e in (grind (arith, nat_tests), grind (arith, nat_tests))
 
 -- a number of a range that passes a test
 some_in : (p : ℕ → Bool) (a n : ℕ) → list_any p (range_with_len a n) ≡ true → (v : ℕ) × (p v ≡ true)
@@ -148,10 +144,9 @@ some_in p a zero h = absurd (false≢true h)
 some_in p a (suc n) h = ⊎_elim (λ q. (a, q)) (some_in p (a + 1) n) (or_cases (p a) (list_any p (range_with_len (a + 1) n)) h)
 
 in_some : (p : ℕ → Bool) (a n v : ℕ) → a ≤ v → v < a + n → p v ≡ true → list_any p (range_with_len a n) ≡ true
-in_some p a zero v l m h = absurd (omega arith)
-in_some p a (suc n) v l m h =
-    ⊎_elim (λ (e : v ≡ a). or_left (p a) _ (subst (λ (i : ℕ). p i ≡ true) e h))
-    (λ (ne : v ≢ a). or_right (p a) _ (in_some p (a + 1) n v (omega arith) (omega arith) h)) (cases_eq v a)
+in_some p a n v l m h =
+    let e : get_or (range_with_len a n) (v - a) 0 ≡ v = get_or-range_with_len a n (v - a) 0 (omega arith) ∙ omega arith in
+    list_any_at p (range_with_len a n) (v - a) 0 (omega (arith, length-range_with_len a n)) (ap p e ∙ h)
 
 pub reaches_other : (s : Edges) (a b r : ℕ) → all_edges s ≡ true → a ≢ b → is_role b ≡ false → ReachesRoles s a r → edge_from s r b ≡ reaches s a b
 reaches_other s a b r f n h c = same_from_decides (edge_from s r b) (reaches s a b) (there, back) (paths_decided s a b)
