@@ -17,14 +17,14 @@ pow_same = bit_at-pow_same
 pub pow_other : (j k : ℕ) → j ≢ k → 2 ^ k / 2 ^ j % 2 ≡ 0
 pow_other j k = bit_at-pow_other k j
 
-pub bit_one : (k j : ℕ) → bit (2 ^ k) j ≡ eqb j k
+bit_one : (k j : ℕ) → bit (2 ^ k) j ≡ eqb j k
 bit_one k j = grind (arith, nat_tests, bit_at-pow_same k, bit_at-pow_other k j)
 
 pub bit_none : (j : ℕ) → bit 0 j ≡ false
 bit_none j = grind (arith, nat_tests, bit_at-zero j)
 
 -- two numbers put together
-pub bit_of_or : (a b j : ℕ) → bit (bit_or a b) j ≡ (bit a j || bit b j)
+bit_of_or : (a b j : ℕ) → bit (bit_or a b) j ≡ (bit a j || bit b j)
 bit_of_or a b j = grind (arith, nat_tests, bit_at_or a b j, bit_at-lt a j, bit_at-lt b j)
 
 -- what a number has beyond another, in 64 bits
