@@ -1,22 +1,22 @@
--- Which roles are reached, in one word: bit k is for role 64 + k.
-use Rattle.std.specs.Prelude.{◌≡◌, ℕ, ◌+◌, ◌<◌, Bool, true, ◌&&◌, ◌↔◌}
+-- Which roles are reached, where a set of roles is one word.
+use Rattle.std.specs.Prelude.{◌≡◌, ℕ, Bool, true, ◌&&◌, ◌↔◌}
 use Rattle.std.specs.List.{list_any, range_with_len}
-use Rattle.terms.specs.Graph.{edge}
+use Rattle.terms.specs.Graph.{edge, is_role}
 use Rattle.model.specs.EdgeSets.{Edges, has}
-use Rattle.model.specs.BitRows.{bit, has_role}
+use Rattle.model.specs.BitRows.{has_role}
 use Rattle.meaning.specs.Paths.{Reach}
 
 -- a role of w reaches x
 abbrev pub FromRoles : Edges → ℕ → ℕ → Type 0
-FromRoles s w x = (j : ℕ) × (j < 64) × (bit w j ≡ true) × Reach s (64 + j) x
+FromRoles s w x = (v : ℕ) × (has_role w v ≡ true) × Reach s v x
 
 -- r has just the roles that those of w reach
 abbrev pub Closure : Edges → ℕ → ℕ → Type 0
-Closure s w r = (k : ℕ) → k < 64 → (bit r k ≡ true) ↔ FromRoles s w (64 + k)
+Closure s w r = (x : ℕ) → is_role x ≡ true → (has_role r x ≡ true) ↔ FromRoles s w x
 
 -- r has just the roles that vertex v reaches
 abbrev pub ReachesRoles : Edges → ℕ → ℕ → Type 0
-ReachesRoles s v r = (k : ℕ) → k < 64 → (bit r k ≡ true) ↔ Reach s v (64 + k)
+ReachesRoles s v r = (x : ℕ) → is_role x ≡ true → (has_role r x ≡ true) ↔ Reach s v x
 
 -- a search from the roles of w finds what vertex v reaches
 abbrev pub Begins : Edges → ℕ → ℕ → Type 0

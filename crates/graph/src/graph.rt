@@ -22,7 +22,7 @@ pub trait Graph {
     ghost formed: { (g : Self) → all_edges (edges g) ≡ true };
 }
 
-// The edges that a reader holds.
+// A reader is the graph of the edges that it holds.
 impl<R: Reader> Graph for R {
     ghost edges = { λ r. R.Reader.edges r };
 

@@ -54,7 +54,7 @@ impl Roles {
     }
 
     // The lowest role that this set has and another lacks.
-    #[tactic(auto, using(crate::proofs::BitRows::none_beyond, crate::proofs::BitRows::one_beyond, crate::proofs::BitRows::lowest_beyond))]
+    #[tactic(auto, using(crate::proofs::BitRows::beyond_tells))]
     pub fn beyond(self, other: Roles) -> Option<u16>
         ensures { MatchOption result ((v : ℕ) → is_beyond self.word other.word v ≡ false) (λ v. LowestBeyond self.word other.word v) }
     {

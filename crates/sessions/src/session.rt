@@ -7,17 +7,18 @@ use graph::search::reaches;
 use stores::store::Reader;
 use terms::kinds::Kind;
 
-// A session without a role.
+// The state of a session without a role.
 #[derive(Drop)]
 pub struct Idle;
 
-// A session in a role.
+// The state of a session in a role.
 #[derive(Drop)]
 pub struct Active {
     role: u16,
 }
 
-// A user's session. It is handed on from call to call, and ends only by being closed.
+// A user's session, in one of these states. It is handed on from call to call, and ends only by
+// being closed.
 pub struct Session<S = Idle> {
     user: u16,
     state: S,
