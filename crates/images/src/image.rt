@@ -29,7 +29,6 @@ fn is_counted(bytes: &[u8]) -> bool
 }
 
 // Whether bytes are the image of a set of at most 512 vault edges.
-#[tactic(auto, using(crate::proofs::Steps::all_read, formats::proofs::Rounds::judged))]
 fn is_image(bytes: &[u8]) -> bool
     ensures { Judged bytes.now result }
 {
