@@ -115,7 +115,7 @@ runs_edges n m (r ∷ rs) h =
     by r.count refl f.some (runs_edges (next r) (m - r.count) rs more) more
   where
     by : (l : ℕ) → r.count ≡ l → 0 < r.count → runs (edges_in rs) ≡ rs → all_fit (next r) (m - r.count) rs ≡ true → runs (along r.first r.count ++ edges_in rs) ≡ r ∷ rs
-    by zero e k ih more = absurd (let w : ⊥ = omega arith in w)
+    by zero e k ih more = absurd (omega arith)
     by (suc l) e k ih more =
         ap (λ (x : ℕ). runs (along r.first x ++ edges_in rs)) e
         ∙ runs_along r.first l (m - r.count) (edges_in rs) rs ih (subst (λ (x : ℕ). all_fit (suc (r.first + x)) (m - r.count) rs ≡ true) e more)
@@ -161,5 +161,5 @@ front_long n m (r ∷ rs) h =
     (λ (y : fits n m r ≡ true).
     let is = cond-true (fits n m r) (r ∷ front (next r) (m - r.count) rs) [] y in
     is ∙ ap (λ (ts : List Run). r ∷ ts) (front_long (next r) (m - r.count) rs (omega (arith, sym (ap length is) ∙ h))))
-    (λ (x : fits n m r ≡ false). absurd (let w : ⊥ = omega (arith, sym (ap length (cond-false (fits n m r) (r ∷ front (next r) (m - r.count) rs) [] x)) ∙ h) in w))
+    (λ (x : fits n m r ≡ false). absurd (omega (arith, sym (ap length (cond-false (fits n m r) (r ∷ front (next r) (m - r.count) rs) [] x)) ∙ h)))
     (cases_Bool (fits n m r))

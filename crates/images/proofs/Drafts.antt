@@ -25,8 +25,8 @@ run_over xs bs i r e =
     ∙ ap (λ (x : List ℕ). xs ++ (bytes (r ∷ []) ++ x)) behind ∙ sym (append_assoc xs (bytes (r ∷ [])) (drop (i + 4) bs))
 
 behind_count : (bs ys zs : List ℕ) → 2 ≤ length bs → drop 2 ((take 2 bs ++ ys) ++ zs) ≡ ys ++ zs
-behind_count [] ys zs h = absurd (let w : ⊥ = omega arith in w)
-behind_count (a ∷ []) ys zs h = absurd (let w : ⊥ = omega arith in w)
+behind_count [] ys zs h = absurd (omega arith)
+behind_count (a ∷ []) ys zs h = absurd (omega arith)
 behind_count (a ∷ b ∷ bs) ys zs h = refl
 
 bytes_both : (rs ts : List Run) → bytes (rs ++ ts) ≡ bytes rs ++ bytes ts
@@ -49,7 +49,7 @@ length_runs (d ∷ s) = omega (arith, (length_joined (cell d) (runs s)).1, lengt
 
 -- a run that nothing touches
 run_ends : (o n : ℕ) (s : Edges) → 0 < n → climbs (suc (o + n)) s ≡ true → all_vault s ≡ true → runs (along o n ++ s) ≡ run o n ∷ runs s
-run_ends o zero s h up v = absurd (let w : ⊥ = omega arith in w)
+run_ends o zero s h up v = absurd (omega arith)
 run_ends o (suc n) s h up v = runs_along o n (length s) s (runs s) refl (runs_climb (suc (o + suc n)) (length s) s up v (omega arith))
 
 -- the edges of a pending run

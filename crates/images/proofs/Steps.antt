@@ -1,5 +1,5 @@
 -- One step of a walk over the cells of a run, or over the runs in bytes.
-use Rattle.std.proofs.Common.{◌≡◌, ℕ, zero, suc, ◌+◌, ◌-◌, ◌*◌, ◌<◌, ◌≤◌, Bool, true, false, ◌&&◌, ◌||◌, eqb, ltb, leb, List, [], ◌∷◌, ◌++◌, length, take, drop, sym, refl, ap, ◌∙◌, subst, ⊎_elim, add-one, arith, length-append, length-drop}
+use Rattle.std.proofs.Common.{◌≡◌, ℕ, zero, suc, ◌+◌, ◌-◌, ◌*◌, ◌≤◌, Bool, true, false, ◌&&◌, ◌||◌, eqb, ltb, leb, List, [], ◌∷◌, ◌++◌, length, take, drop, sym, refl, ap, ◌∙◌, subst, ⊎_elim, add-one, arith, length-append, length-drop}
 use Rattle.std.specs.Prelude.{⊤, Some}
 use Rattle.std.specs.Iterator.{MakesProgress, YieldsFirst, item_count}
 use Rattle.std.specs.Iterator.Runs.{YieldsInOrder}
@@ -59,18 +59,12 @@ has_both (d ∷ s) t e = ap (λ (b : Bool). same d e || b) (has_both s t e) ∙ 
 
 -- Runs in bytes
 
-runs_short : (bs : List ℕ) → length bs < 4 → runs_in bs ≡ []
-runs_short [] h = refl
-runs_short (a ∷ []) h = refl
-runs_short (a ∷ b ∷ []) h = refl
-runs_short (a ∷ b ∷ c ∷ []) h = refl
-runs_short (a ∷ b ∷ c ∷ d ∷ s) h = absurd (let w : ⊥ = omega arith in w)
-
+-- the first four bytes are a run
 runs_more : (bs : List ℕ) → 4 ≤ length bs → runs_in bs ≡ run_at (take 4 bs) 0 ∷ runs_in (drop 4 bs)
-runs_more [] h = absurd (let w : ⊥ = omega arith in w)
-runs_more (a ∷ []) h = absurd (let w : ⊥ = omega arith in w)
-runs_more (a ∷ b ∷ []) h = absurd (let w : ⊥ = omega arith in w)
-runs_more (a ∷ b ∷ c ∷ []) h = absurd (let w : ⊥ = omega arith in w)
+runs_more [] h = absurd (omega arith)
+runs_more (a ∷ []) h = absurd (omega arith)
+runs_more (a ∷ b ∷ []) h = absurd (omega arith)
+runs_more (a ∷ b ∷ c ∷ []) h = absurd (omega arith)
 runs_more (a ∷ b ∷ c ∷ d ∷ s) h = refl
 
 -- a run that fits comes next, and is then behind
@@ -116,8 +110,8 @@ few_fit : (n m : ℕ) (rs : List Run) → all_fit n m rs ≡ true → length rs 
 few_fit n m [] h = omega arith
 few_fit n m (r ∷ rs) h = let (f, more) = all_parts n m r rs h in omega (arith, f.some, f.few, few_fit (next r) (m - r.count) rs more)
 
-pub few_taken : (bs : List ℕ) → length (taken bs) ≤ 512
-few_taken bs = few_fit 0 512 (taken bs) (front_fits 0 512 (runs_in (drop 2 bs)))
+pub few_front : (n m : ℕ) (rs : List Run) → length (front n m rs) ≤ m
+few_front n m rs = few_fit n m (front n m rs) (front_fits n m rs)
 
 -- Sets that bytes hold
 

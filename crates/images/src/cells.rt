@@ -9,6 +9,7 @@ pub(crate) fn edge_at(cell: u32) -> Edge
     requires { cell < 2 ^ 24 }
     ensures { result ≡ cells.edge_at cell }
 {
+    // Casts, since a `try_from` would leave a case that never comes.
     Edge {
         from: (cell / 256) as u16,
         to: (cell % 256) as u16,

@@ -1,8 +1,8 @@
-ghost use Rattle.std.specs.Prelude.{◌≡◌, ◌-◌, ◌≤◌, length, drop};
+ghost use Rattle.std.specs.Prelude.{◌≡◌, ◌≤◌, length};
 ghost use Rattle.std.specs.Iterator.{YieldsFirst, item_count};
 ghost use Rattle.std.specs.Iterator.Runs.{YieldsInOrder};
 ghost use Rattle.model.specs.EdgeSets.{all_vault};
-ghost use Rattle.formats.specs.Runs.{edges_of, next, fits};
+ghost use Rattle.formats.specs.Runs.{edges_of, fits};
 ghost use Rattle.formats.specs.Images.{taken};
 ghost use Rattle.images.specs.Reading.{ahead};
 
@@ -27,38 +27,23 @@ fn are_vault_cells(run: Run) -> bool
     (first..first + u32::from(run.count)).all(is_vault_cell)
 }
 
-// The bytes behind the count of the runs; of fewer than two, none.
-fn behind_count(bytes: &[u8]) -> &[u8]
-    ensures { result.now ≡ drop 2 bytes.now }
-{
-    bytes.get(2..).unwrap_or_default()
-}
-
 impl<'a> Runs<'a> {
     // All of them, behind their count.
-    #[tactic(auto, using(crate::proofs::Steps::few_taken))]
+    #[tactic(auto, using(crate::proofs::Steps::few_front))]
     pub(crate) fn new(bytes: &'a [u8]) -> Runs<'a>
         ensures all { ahead result ≡ taken bytes.now }
         ensures few { length (ahead result) ≤ 512 }
         ensures in_order { YieldsInOrder (YieldsFirst ahead) ahead }
     {
+        let rest = match bytes {
+            [_, _, rest @ ..] => rest,
+            _ => &[],
+        };
         Runs {
-            rest: behind_count(bytes),
+            rest,
             least: 0,
             room: 512,
         }
-    }
-
-    // Goes past a run that fits, to the bytes behind it. The next one may not touch it.
-    fn pass(&mut self, run: Run, rest: &'a [u8])
-        requires { run.count ≤ self.old.room }
-        ensures rest { self.new.rest.now ≡ rest.now }
-        ensures least { self.new.least ≡ next run }
-        ensures room { self.new.room ≡ self.old.room - run.count }
-    {
-        self.rest = rest;
-        self.least = u32::from(run.first) + u32::from(run.count) + 1;
-        self.room -= u32::from(run.count);
     }
 
     // Whether a run may come next.
@@ -71,6 +56,7 @@ impl<'a> Runs<'a> {
     }
 }
 
+// The next run may not touch the one that came.
 impl Iterator for Runs<'_> {
     type Item = Run;
 
@@ -78,13 +64,16 @@ impl Iterator for Runs<'_> {
 
     ghost remaining = { item_count ahead };
 
+    #[tactic(auto, using(crate::proofs::Steps::progress))]
     fn next(&mut self) -> Option<Run> {
         let (bytes, rest) = self.rest.split_first_chunk()?;
         let run = Run::from(*bytes);
         if !self.takes(run) {
             return None;
         }
-        self.pass(run, rest);
+        self.rest = rest;
+        self.least = u32::from(run.first) + u32::from(run.count) + 1;
+        self.room -= u32::from(run.count);
         Some(run)
     }
 }
