@@ -16,7 +16,8 @@ fn vertex(number: u32) -> u16
 }
 
 // Whether a user has access to a privilege in a role, by the table whose image the bytes are: as a
-// session over that table would answer. It asks user (1), privilege (10), image (18), role (14).
+// session over that table would answer. It asks user (1), privilege (10), image (18), role (14). The
+// numbers come one by one, as C hands them over.
 pub fn ask(image: &[u8], user: u32, role: u32, privilege: u32) -> Result<bool, AccessFault>
     ensures { result ≡ judged image.now user role privilege }
 {

@@ -6,6 +6,7 @@ use crate::layers::Layer;
 use crate::refusal::Refusal;
 
 // Why a link refuses a message: it is not about a vault edge, or as many wait as may.
+// It is not one type with a store's fault: the type tells which layer refuses.
 #[derive(Clone, Copy, PartialEq, Eq)]
 pub enum LinkFault {
     NoVaultEdge = 2,

@@ -9,6 +9,7 @@ pub trait Refusal {
 
     ghost layer: { Self → Layer };
 
+    // A method and no From: a bare u8 does not say that it is a refusal's number.
     fn number(&self) -> u8
         ensures { result ≡ number self.now };
 

@@ -6,6 +6,7 @@ use crate::layers::Layer;
 use crate::refusal::Refusal;
 
 // Why a store refuses a pair: it is no vault edge, or the table is at its limit.
+// It is not one type with a link's fault: the type tells which layer refuses.
 #[derive(Clone, Copy, PartialEq, Eq)]
 pub enum StoreFault {
     NoVaultEdge = 2,

@@ -21,6 +21,7 @@ impl Cycle {
     ghost use Rattle.links.specs.Queues.{place, waits, Else};
 
     // No place in use, of as many as a link may have that is made with `wanted`.
+    #[tactic(auto, using(crate::proofs::Cycles::waits_none))]
     pub(crate) fn new(wanted: usize) -> Cycle
         ensures limit { result.limit ≡ link_limit wanted }
         ensures list { (f : ℕ → Change) → waits f result ≡ [] }
@@ -43,6 +44,7 @@ impl Cycle {
         if at < self.limit { at } else { at - self.limit }
     }
 
+    #[tactic(auto, using(crate::specs::Lengths::waits_length))]
     pub(crate) fn count(&self) -> usize
         ensures { (f : ℕ → Change) → result ≡ length (waits f self.now) }
     {
@@ -50,6 +52,7 @@ impl Cycle {
     }
 
     // Takes the next place into use: f is what lay in each place before, g what lies there now.
+    #[tactic(auto, using(crate::proofs::Cycles::waits_more))]
     pub(crate) fn grow(&mut self)
         requires { self.old.count < self.old.limit }
         ensures limit { self.new.limit ≡ self.old.limit }
@@ -59,6 +62,7 @@ impl Cycle {
     }
 
     // Frees the first place in use, if there is one.
+    #[tactic(auto, using(crate::proofs::Cycles::waits_rest, crate::proofs::Cycles::waits_none))]
     pub(crate) fn advance(&mut self)
         ensures limit { self.new.limit ≡ self.old.limit }
         ensures list { (f : ℕ → Change) → waits f self.new ≡ rest (waits f self.old) }

@@ -16,7 +16,8 @@ pub const LIMITS: Limits = Limits {
 
 // A link carries messages from the centre to one vault. It means the list of the messages that wait,
 // the oldest first, and a limit on how many may. A make of link says by these two ghost members what
-// its memory means.
+// its memory means. That the limit never moves is said by each call that alters, as an invariant
+// knows of one state alone.
 pub trait Link {
     ghost waiting: { Self → List Change };
 

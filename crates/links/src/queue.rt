@@ -12,7 +12,8 @@ use faults::link::LinkFault;
 use std::alloc::{AllocError, Global};
 use terms::edges::Change;
 
-// A link that keeps its messages in a ring of places.
+// A link that keeps its messages in a ring of places. It is not the library's VecDeque, since one
+// memory keeps frames on a strip of its own, and one ring serves every memory.
 #[derive(Drop)]
 pub struct Queue<M> {
     pub(crate) memory: M,
@@ -31,7 +32,9 @@ impl<M: Memory> Queue<M> {
         }
     }
 
-    // Puts a message behind all that wait.
+    // Puts a message behind all that wait. That it is about a vault edge is known at the one call of
+    // this; a type for such messages would carry it over one line.
+    #[tactic(auto, using(crate::specs::Lengths::waits_length))]
     fn append(&mut self, message: Change)
         requires room { length (held M.Memory.at self.old) < most self.old }
         requires vault { vault_edge (edge_of message) ≡ true }
@@ -44,6 +47,7 @@ impl<M: Memory> Queue<M> {
     }
 
     // The message that has k others before it, or none.
+    #[tactic(auto, using(crate::proofs::Cycles::waits_at, crate::proofs::Cycles::waits_past))]
     fn message(&self, k: usize) -> Option<Change>
         ensures { result ≡ slice_get (held M.Memory.at self.now) k }
     {

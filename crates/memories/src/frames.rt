@@ -4,7 +4,8 @@ ghost use Rattle.memories.specs.Frames.{frame, framed};
 
 use terms::edges::{Change, Edge};
 
-// Writes the frame of a message at the front of `out`.
+// Writes the frame of a message at the front of `out`. No From makes a frame of a message: both types
+// are another crate's, and only a message about a vault edge has a frame.
 pub(crate) fn write_frame(out: &mut [u8], message: Change)
     requires room { 3 ≤ length out.old }
     requires vault { vault_edge (edge_of message) ≡ true }

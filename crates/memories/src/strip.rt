@@ -5,7 +5,8 @@ use links::memory::{Blank, Memory};
 use std::alloc::{AllocError, Global};
 use terms::edges::Change;
 
-// Memory that keeps each message as a frame of three bytes, on one strip.
+// Memory that keeps each message as a frame of three bytes, on one strip. It is bytes and no list of
+// frames, since its part from a frame's place on is what the frame writer is lent.
 #[derive(Drop)]
 pub struct Strip {
     strip: Vec<u8>,

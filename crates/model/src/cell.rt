@@ -3,7 +3,7 @@ ghost use Rattle.model.specs.Cells as cells;
 
 use terms::edges::Edge;
 
-// The cell of an edge.
+// The cell of an edge. A function and no From: a bare number does not say that it is a cell.
 pub fn cell_of(edge: Edge) -> u32
     ensures { result ≡ cells.cell edge }
 {

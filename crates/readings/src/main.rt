@@ -19,7 +19,8 @@ use terms::edges::Change;
 use vaults::bank::Bank;
 use vaults::vault::Vault;
 
-// The image of a table in hexadecimal, and how many edges it has when it is opened again.
+// The image of a table in hexadecimal, and how many edges it has when it is opened again. The writer
+// asks for no memory: it is lent a buffer, and tells how long the image in it is.
 fn show_image<R: Reader>(rt: &HostRuntime, table: &R) -> io::Result<()> {
     let mut buffer = [0u8; 2050];
     let length = write(table, &mut buffer).unwrap_or(0);

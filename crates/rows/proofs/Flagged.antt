@@ -10,10 +10,11 @@ use Rattle.model.specs.BitRows.{bit, Row}
 use Rattle.model.proofs.BitRows.{bit_none}
 use Rattle.model.specs.Cells.{cell, listed}
 use Rattle.model.proofs.Cells.{cell_within, cell_edge, listed_ascends, has_listed, insert_listed, delete_listed, listed_none}
-use Rattle.model.proofs.Members.{vault_member}
+use Rattle.model.proofs.Ascents.{length_delete}
+use Rattle.model.proofs.Members.{vault_member, length_insert, vault_insert, vault_delete}
 use Rattle.rows.specs.Flags.{bit_at, flagged}
 
-flagged_ascends : (ws : List ℕ) → Ascending (flagged ws)
+pub flagged_ascends : (ws : List ℕ) → Ascending (flagged ws)
 unfolding flagged
 flagged_ascends ws = listed_ascends (bit_at ws) 0 32768
 
@@ -59,6 +60,19 @@ module _ (ws us : List ℕ) (e : Edge) (k : ℕ) (h : vault_edge e ≡ true) (is
       delete_listed (bit_at ws) (bit_at us) (cell e) else 0 32768 (omega arith) (omega arith) (was true q) (turned true q)
       ∙ ap (λ (x : Edge). delete x (listed (bit_at ws) 0 32768)) (cell_edge e b.1)
 
+  -- the set stays one of vault edges, with one edge more or one less
+  pub set_vault : e ∉ flagged ws → all_vault (flagged ws) ≡ true → all_vault (flagged us) ≡ true
+  set_vault q all = rw (set_flag q) (vault_insert e (flagged ws) h all)
+
+  pub clear_vault : e ∈ flagged ws → all_vault (flagged ws) ≡ true → all_vault (flagged us) ≡ true
+  clear_vault q all = rw (clear_flag q) (vault_delete e (flagged ws) all)
+
+  pub set_counted : e ∉ flagged ws → length (flagged us) ≡ suc (length (flagged ws))
+  set_counted q = rw (set_flag q) (length_insert e (flagged ws) q)
+
+  pub clear_counted : e ∈ flagged ws → suc (length (flagged us)) ≡ length (flagged ws)
+  clear_counted q = rw (clear_flag q) (length_delete e (flagged ws) (flagged_ascends ws) q)
+
 zeros : (n i : ℕ) → get_or {A = ℕ} (replicate n 0) i 0 ≡ 0
 zeros zero i = refl
 zeros (suc n) zero = refl
@@ -69,10 +83,6 @@ unfolding flagged
 no_flags ws n e =
     listed_none (bit_at ws) 0 32768
     (λ j. ap (λ (us : List ℕ). bit_at us j) e ∙ ap (λ (w : ℕ). eqb (w / 2 ^ (j % 64) % 2) 1) (zeros n (j / 64)) ∙ ap (λ (w : ℕ). eqb (w % 2) 1) (zero-div (2 ^ (j % 64))))
-
--- what rows know of a set once it is what their bits stand for
-pub flags_are : (ws : List ℕ) (s : Edges) → flagged ws ≡ s → all_vault s ≡ true → Ascending (flagged ws) × (all_vault (flagged ws) ≡ true) × (length (flagged ws) ≡ length s)
-flags_are ws s is vault = (flagged_ascends ws, subst (λ (t : Edges). all_vault t ≡ true) (sym is) vault, ap length is)
 
 -- the second word of a row has the bits of roles
 pub role_flags : (ws : List ℕ) (v w : ℕ) → v < 128 → w ≡ get_or ws (v * 4 + 1) 0 → Row (flagged ws) v w

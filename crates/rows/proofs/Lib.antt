@@ -1,2 +1,2 @@
 mod Turns
-mod Flagged
+pub mod Flagged

@@ -14,7 +14,8 @@ use std::alloc::{AllocError, Global};
 use stores::store::{LIMITS, Made, Reader, Store};
 use terms::edges::Edge;
 
-// A store that keeps a row of 256 bits for each user and each role.
+// A store that keeps a row of 256 bits for each user and each role. Its count stands beside the rows,
+// since counting their bits would read all of them.
 #[derive(Drop)]
 pub struct Rows {
     words: Words,
@@ -46,14 +47,16 @@ impl Rows {
     {
         if from < 128 {
             Roles {
-                word: self.words.word(from as usize * 4 + 1),
+                word: self.words.word(usize::from(from) * 4 + 1),
             }
         } else {
             Roles::none()
         }
     }
 
-    // Sets the bit of an edge that is absent.
+    // Sets the bit of an edge that is absent. That it is a vault edge is known at the one call of this;
+    // a type for such edges would carry it over one line.
+    #[tactic(auto, using(crate::proofs::Flagged::flagged_ascends, crate::proofs::Flagged::set_flag, crate::proofs::Flagged::set_vault, crate::proofs::Flagged::set_counted))]
     fn set(&mut self, edge: Edge)
         requires vault { vault_edge edge ≡ true }
         requires absent { edge ∉ rows_edges self.old }
@@ -65,7 +68,8 @@ impl Rows {
         self.count += 1;
     }
 
-    // Clears the bit of an edge that is held.
+    // Clears the bit of an edge that is held; of it, too, that is known at the one call.
+    #[tactic(auto, using(crate::proofs::Flagged::flagged_ascends, crate::proofs::Flagged::clear_flag, crate::proofs::Flagged::clear_vault, crate::proofs::Flagged::clear_counted))]
     fn clear(&mut self, edge: Edge)
         requires vault { vault_edge edge ≡ true }
         requires held { edge ∈ rows_edges self.old }

@@ -55,7 +55,8 @@ impl Session<Idle> {
     }
 
     // Takes a role that the user reaches in the table now. Any other number is refused with 14, and
-    // the session comes back without a role.
+    // the session comes back without a role. Fault and session come as a pair, which a match takes
+    // apart in one line.
     pub fn activate<R: Reader>(
         self,
         table: &R,

@@ -43,7 +43,8 @@ pub trait Reader {
     ghost table: { (r : Self) → Table (edges r) };
 }
 
-// A store is a vault's table: a reader that can also put and drop, with a limit that never moves.
+// A store is a vault's table: a reader that can also put and drop, with a limit that never moves;
+// each call that alters says so, as an invariant knows of one state alone.
 pub trait Store: Reader {
     ghost limit: { Self → ℕ };
 

@@ -12,7 +12,8 @@ pub enum Kind {
 }
 
 impl Kind {
-    // The kind of a vertex; none for a number that is no vertex.
+    // The kind of a vertex; none for a number that is no vertex. An Option and no TryFrom, since that
+    // is no error yet: each layer has a refusal of its own for it.
     pub fn of(vertex: u16) -> Option<Kind>
         ensures { result ≡ kind_of vertex }
     {

@@ -54,7 +54,8 @@ impl Bank for () {
     }
 }
 
-// Vault 0, and the bank of the others.
+// Vault 0, and the bank of the others. Each call goes on to the others by itself: one function that
+// did it for all would take a closure from each, of another type.
 impl<L: Link, S: Store, B: Bank> Bank for (Vault<L, S>, B) {
     ghost sites = { λ b. record { waiting = L.Link.waiting b.0.link; link_limit = L.Link.limit b.0.link; table = S.Reader.edges b.0.store; store_limit = S.Store.limit b.0.store } ∷ B.Bank.sites b.1 };
 

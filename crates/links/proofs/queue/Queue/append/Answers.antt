@@ -1,11 +1,7 @@
 use Rattle.std.proofs.Common.{◌≡◌, [], ◌∷◌, ◌++◌, sym, ap, ◌∙◌, arith}
 use Rattle.terms.specs.declared.edges.Change.{Change}
 use Rattle.links.specs.Queues.{place, waits}
-use Rattle.links.specs.Lengths.{waits_length}
 use Rattle.links.proofs.queue.Queue.append.Goals as goal
-
-pub grow-requires : goal.grow-requires
-grow-requires g c = omega (arith, waits_length (g.M.Memory.at c.args.self.now.memory) c.args.self.now.cycle)
 
 pub returns : goal.returns
 returns g c =
