@@ -47,7 +47,7 @@ impl Rows {
     {
         if from < 128 {
             Roles {
-                word: self.words.word(usize::from(from) * 4 + 1),
+                word: self.words.word(from as usize * 4 + 1),
             }
         } else {
             Roles::none()
