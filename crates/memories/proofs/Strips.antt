@@ -83,11 +83,3 @@ module _ (xs out : List ℕ) (at k : ℕ) (long : k ≡ length xs - 3 * at) (fit
 
   pub framed_length : (m : Change) → out ≡ frame m ++ drop 3 (take k (drop (3 * at) xs)) → length (put_mid (3 * at) k xs out) ≡ length xs
   framed_length = put_length
-
--- a frame read from its place on
-pub framed_part : (xs ys : List ℕ) (at : ℕ) → ys ≡ xs → framed (take (length ys - 3 * at) (drop (3 * at) ys)) 0 ≡ framed xs at
-framed_part xs ys at e =
-    let all : take (length ys - 3 * at) (drop (3 * at) ys) ≡ drop (3 * at) ys = take_all _ (drop (3 * at) ys) (simp length-drop (omega arith)) in
-    let z : 3 * at + 0 ≡ 3 * at = omega arith in
-    ap (λ (l : List ℕ). framed l 0) (all ∙ ap (λ (l : List ℕ). drop (3 * at) l) e)
-    ∙ unframed_same _ _ _ _ _ _ (get_or-drop (3 * at) xs 0 0 ∙ ap (λ (i : ℕ). get_or xs i 0) z) (get_or-drop (3 * at) xs 1 0) (get_or-drop (3 * at) xs 2 0)

@@ -35,7 +35,7 @@ fn untouched(buffer: &[u8], from: usize) -> bool {
 }
 
 // The image of a table has so many pairs, is opened as the same table, and stands in a buffer whose
-// other bytes are as they were.
+// other bytes are as they were. The writer asks for no memory: it is lent the buffer.
 fn round_trip<R: Reader>(table: &R, runs: usize) -> Result<(), Fail> {
     let mut buffer = [7u8; 2060];
     let length = write(table, &mut buffer).unwrap_or(0);
