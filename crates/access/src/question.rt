@@ -8,7 +8,8 @@ use images::image::Image;
 use sessions::session::{Session, ask_once};
 use terms::kinds::Kind;
 
-// A number as a vertex: a number that is too large for one becomes another that is no vertex.
+// A number as a vertex: a number that is too large for one becomes another that is no vertex. C hands
+// over any number, and one refusal answers all that are no vertex, so it is no Option.
 fn vertex(number: u32) -> u16
     ensures { result ≡ (if nat_lt number 65535 then number else 65535) }
 {
@@ -35,7 +36,7 @@ pub fn ask(image: &[u8], user: u32, role: u32, privilege: u32) -> Result<bool, A
     }
 }
 
-// The same for a host program in C: 0 is no, 1 is yes, and a refusal is 100 and its number.
+// The same for a host program in C, as numbers: 0 is no, 1 is yes, and a refusal is 100 and its own.
 #[unsafe(no_mangle)]
 pub extern "C" fn kulzhemiq_access(image: &[u8], user: u32, role: u32, privilege: u32) -> u32
     ensures { result ≡ code (judged image.now user role privilege) }

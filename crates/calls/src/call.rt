@@ -21,7 +21,8 @@ pub enum Call {
     Deliver { vault: usize },
 }
 
-// A call and its answer: the number that a declared privilege has, 0 for any other accepted call.
+// A call and its answer: the number that a declared privilege has, 0 for any other accepted call. The
+// 0 is what the rules say and what a script prints, so it is no Option.
 #[derive(Clone, Copy)]
 pub struct CallRecord {
     pub call: Call,

@@ -37,6 +37,7 @@ impl Refusal for AccessFault {
     }
 }
 
+// These two are written out, since what a derive would write has no contract.
 impl From<ImageFault> for AccessFault {
     ghost from_gives = { λ f g. g ≡ OfImage f };
 

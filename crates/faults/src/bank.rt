@@ -44,6 +44,7 @@ impl Refusal for BankFault {
     }
 }
 
+// These two are written out, since what a derive would write has no contract.
 impl From<LinkFault> for BankFault {
     ghost from_gives = { λ f g. g ≡ OfLink f };
 

@@ -4,6 +4,7 @@ ghost use Rattle.faults.specs.declared.layers.Layer.{Layer};
 use crate::layers::Layer;
 
 // What every fault tells of itself: the number that it is listed under, and the layer that refuses.
+// Each plain enum has its own few lines for this, since no bound says that a type has discriminants.
 pub trait Refusal {
     ghost number: { Self → ℕ };
 

@@ -4,15 +4,15 @@ ghost use Rattle.model.specs.Cells as cells;
 
 use terms::edges::Edge;
 
-// The edge of a cell.
+// The edge of a cell. A function and no From, as a bare number does not say that it is a cell.
 pub(crate) fn edge_at(cell: u32) -> Edge
     requires { cell < 2 ^ 24 }
     ensures { result ≡ cells.edge_at cell }
 {
-    // Casts, since a `try_from` would leave a case that never comes.
+    let [_, high, low, to] = cell.to_be_bytes();
     Edge {
-        from: (cell / 256) as u16,
-        to: (cell % 256) as u16,
+        from: u16::from_be_bytes([high, low]),
+        to: u16::from(to),
     }
 }
 

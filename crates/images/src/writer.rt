@@ -23,6 +23,7 @@ struct Draft<'a> {
     pending: Option<Run>,
 }
 
+// Each call says that it writes to the same bytes: a fact about the reference, and of two states.
 impl Draft<'_> {
     // A cell follows those of the pending run, or begins one.
     fn push(&mut self, cell: u16)

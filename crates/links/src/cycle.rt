@@ -13,7 +13,8 @@ pub struct Cycle {
     ghost few: { count ≤ limit },
 }
 
-// In each clause f says which message lies in each place.
+// In each clause f says which message lies in each place. A limit that stays is said by each call that
+// alters, as an invariant knows of one state alone; so it is in the queue, and in every store.
 impl Cycle {
     ghost use Rattle.std.specs.Prelude.{◌≡◌, ℕ, ◌+◌, ◌<◌, ◌≤◌, [], ◌∷◌, ◌++◌, length};
     ghost use Rattle.terms.specs.declared.edges.Change.{Change};

@@ -12,12 +12,14 @@ pub(crate) fn write_frame(out: &mut [u8], message: Change)
     ensures { out.new ≡ frame message ++ drop 3 out.old }
 {
     let edge = message.edge();
+    let [_, from] = edge.from.to_be_bytes();
+    let [_, to] = edge.to.to_be_bytes();
     out[0] = match message {
         Change::Add(_) => b'+',
         Change::Remove(_) => b'-',
     };
-    out[1] = edge.from as u8;
-    out[2] = edge.to as u8;
+    out[1] = from;
+    out[2] = to;
 }
 
 // Reads the message whose frame is at the front of `bytes`.

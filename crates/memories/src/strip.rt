@@ -6,7 +6,7 @@ use std::alloc::{AllocError, Global};
 use terms::edges::Change;
 
 // Memory that keeps each message as a frame of three bytes, on one strip. It is bytes and no list of
-// frames, since its part from a frame's place on is what the frame writer is lent.
+// frames: a packed link is one strip of bytes, and a frame is written into the middle of it.
 #[derive(Drop)]
 pub struct Strip {
     strip: Vec<u8>,
@@ -26,7 +26,8 @@ impl Strip {
         read_frame(&self.strip[3 * place..])
     }
 
-    // The strip is lent to the frame writer from the frame's place on.
+    // The strip is lent to the frame writer from the frame's place on. That the message is about a vault
+    // edge is known at the one call of this.
     fn set_frame(&mut self, place: usize, message: Change)
         requires within { place < 1024 }
         requires vault { vault_edge (edge_of message) ≡ true }

@@ -1,10 +1,10 @@
 -- Bits of a number: of a power of two, of two numbers put together, and of what one has beyond another.
-use Rattle.std.proofs.Common.{◌≡◌, ◌≢◌, ℕ, ◌+◌, ◌-◌, ◌/◌, ◌%◌, ◌^◌, ◌<◌, Bool, true, false, not, ◌&&◌, ◌||◌, eqb, bit_and, bit_or, ap, ◌∙◌, subst, arith}
+use Rattle.std.proofs.Common.{◌≡◌, ◌≢◌, ℕ, zero, suc, ◌+◌, ◌-◌, ◌/◌, ◌%◌, ◌^◌, ◌<◌, Bool, true, false, not, ◌&&◌, ◌||◌, eqb, bit_and, bit_or, bit_xor, sym, refl, ap, ◌∙◌, subst, arith}
 use Rattle.std.specs.Int.{w64, bit_at, bit_not}
 use Rattle.std.specs.Int.Count.{count_trailing_zeros}
-use Rattle.std.proofs.lemmas.Nat.Bits.{bit_at-zero, bit_at-lt, bit_at-pow_same, bit_at-pow_other, bit_at_or, bit_at_and, bit_at_not, bit_at-trailing_zeros}
+use Rattle.std.proofs.lemmas.Nat.Bits.{bit_at-zero, bit_at-lt, bit_at-pow_same, bit_at-pow_other, bit_at_or, bit_at_xor, bit_at_and, bit_at_not, bit_at-trailing_zeros}
 use Rattle.std.proofs.lemmas.Nat.{and_le_l}
-use Rattle.std.proofs.lemmas.Bool.{and_right}
+use Rattle.std.proofs.lemmas.Bool.{and_right, false≢true}
 use Rattle.std.proofs.lemmas.Bool.Decides.{nat_tests}
 use Rattle.terms.specs.Graph.{edge, is_role}
 use Rattle.model.specs.EdgeSets.{Edges, has}
@@ -17,6 +17,9 @@ pow_same = bit_at-pow_same
 pub pow_other : (j k : ℕ) → j ≢ k → 2 ^ k / 2 ^ j % 2 ≡ 0
 pow_other j k = bit_at-pow_other k j
 
+pub pow_under : (j k : ℕ) → k < j → 2 ^ k / 2 ^ j % 2 ≡ 0
+pow_under j k l = pow_other j k (λ e. omega arith)
+
 bit_one : (k j : ℕ) → bit (2 ^ k) j ≡ eqb j k
 bit_one k j = grind (arith, nat_tests, bit_at-pow_same k, bit_at-pow_other k j)
 
@@ -24,8 +27,21 @@ pub bit_none : (j : ℕ) → bit 0 j ≡ false
 bit_none j = grind (arith, nat_tests, bit_at-zero j)
 
 -- two numbers put together
-bit_of_or : (a b j : ℕ) → bit (bit_or a b) j ≡ (bit a j || bit b j)
+pub bit_of_or : (a b j : ℕ) → bit (bit_or a b) j ≡ (bit a j || bit b j)
 bit_of_or a b j = grind (arith, nat_tests, bit_at_or a b j, bit_at-lt a j, bit_at-lt b j)
+
+-- two numbers compared
+pub bit_of_xor : (a b j : ℕ) → bit (bit_xor a b) j ≡ true → (bit b j ≡ true → bit a j ≡ true) → (bit a j ≡ true) × (bit b j ≡ false)
+bit_of_xor a b j h s = by (bit_at a j) (bit_at b j) (bit_at-lt a j) (bit_at-lt b j) (sym (ap (λ (n : ℕ). eqb n 1) (bit_at_xor a b j)) ∙ h) s
+  where
+    by : (p q : ℕ) → p < 2 → q < 2 → eqb ((p + q) % 2) 1 ≡ true → (eqb q 1 ≡ true → eqb p 1 ≡ true) → (eqb p 1 ≡ true) × (eqb q 1 ≡ false)
+    by zero zero h k d s = absurd (false≢true d)
+    by zero (suc zero) h k d s = absurd (false≢true (s refl))
+    by (suc zero) zero h k d s = (refl, refl)
+    by (suc zero) (suc zero) h k d s = absurd (false≢true d)
+    by zero (suc (suc q)) h k d s = absurd (omega arith)
+    by (suc zero) (suc (suc q)) h k d s = absurd (omega arith)
+    by (suc (suc p)) q h k d s = absurd (omega arith)
 
 -- what a number has beyond another, in 64 bits
 bit_beyond : (a b j : ℕ) → b < 2 ^ 64 → j < 64 → bit (bit_and a (bit_not w64 b)) j ≡ (bit a j && not (bit b j))

@@ -127,25 +127,23 @@ vault_delete e (d ∷ s) k = by (same d e) (vault_delete e s p.1)
     by true ih = ih
     by false ih = rw p.0 ih
 
+-- what all edges of a set pass, where all says so of a set, each of them passes
+all_member : (test : Edge → Bool) (all : Edges → Bool) → ((d : Edge) (s : Edges) → all (d ∷ s) ≡ (test d && all s)) → (e : Edge) (s : Edges) → all s ≡ true → e ∈ s → test e ≡ true
+all_member test all parts e [] k h = absurd (false≢true h)
+all_member test all parts e (d ∷ s) k h =
+    let p = and_parts (test d) (all s) (sym (parts d s) ∙ k) in
+    ⊎_elim
+    (λ (q : same d e ≡ true). subst (λ (x : Edge). test x ≡ true) (same_equal d e q) p.0)
+    (λ (q : e ∈ s). all_member test all parts e s p.1 q)
+    (or_cases (same d e) (has s e) h)
+
 -- a set of vault edges has no other edge
 pub vault_member : (e : Edge) (s : Edges) → all_vault s ≡ true → e ∈ s → vault_edge e ≡ true
-vault_member e [] k h = absurd (false≢true h)
-vault_member e (d ∷ s) k h =
-    let p = and_parts (vault_edge d) (all_vault s) k in
-    ⊎_elim
-    (λ (q : same d e ≡ true). subst (λ (x : Edge). vault_edge x ≡ true) (same_equal d e q) p.0)
-    (λ (q : e ∈ s). vault_member e s p.1 q)
-    (or_cases (same d e) (has s e) h)
+vault_member = all_member vault_edge all_vault (λ d s. refl)
 
 -- nor has a set of edges any other pair
 pub edge_member : (e : Edge) (s : Edges) → all_edges s ≡ true → e ∈ s → is_edge e ≡ true
-edge_member e [] k h = absurd (false≢true h)
-edge_member e (d ∷ s) k h =
-    let p = and_parts (is_edge d) (all_edges s) k in
-    ⊎_elim
-    (λ (q : same d e ≡ true). subst (λ (x : Edge). is_edge x ≡ true) (same_equal d e q) p.0)
-    (λ (q : e ∈ s). edge_member e s p.1 q)
-    (or_cases (same d e) (has s e) h)
+edge_member = all_member is_edge all_edges (λ d s. refl)
 
 pub vault_edges : (s : Edges) → all_vault s ≡ true → all_edges s ≡ true
 vault_edges [] k = refl

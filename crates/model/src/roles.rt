@@ -62,6 +62,7 @@ impl Roles {
         if beyond == 0 {
             return None;
         }
+        // The cast loses nothing, and a try_from would leave a case that never comes.
         Some(64 + beyond.trailing_zeros() as u16)
     }
 }

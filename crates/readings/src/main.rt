@@ -19,16 +19,13 @@ use terms::edges::Change;
 use vaults::bank::Bank;
 use vaults::vault::Vault;
 
-// The image of a table in hexadecimal, and how many edges it has when it is opened again. The writer
-// asks for no memory: it is lent a buffer, and tells how long the image in it is.
-fn show_image<R: Reader>(rt: &HostRuntime, table: &R) -> io::Result<()> {
-    let mut buffer = [0u8; 2050];
-    let length = write(table, &mut buffer).unwrap_or(0);
+// The bytes of an image in hexadecimal, and how many edges it has when it is opened again.
+fn show_bytes(rt: &HostRuntime, bytes: &[u8]) -> io::Result<()> {
     print!(rt; "    image:")?;
-    for byte in buffer.iter().take(length) {
+    for byte in bytes {
         print!(rt; " {byte:02x}")?;
     }
-    match Image::open(&buffer[..length.min(2050)]) {
+    match Image::open(bytes) {
         Ok(image) => {
             let edges = image.count();
             println!(rt; "; opened again: {edges} edges")
@@ -36,6 +33,19 @@ fn show_image<R: Reader>(rt: &HostRuntime, table: &R) -> io::Result<()> {
         Err(fault) => {
             let refusal = fault.number();
             println!(rt; "; refused with {refusal}")
+        }
+    }
+}
+
+// The image of a table. The writer asks for no memory: it is lent a buffer, and tells how long the image
+// in it is.
+fn show_image<R: Reader>(rt: &HostRuntime, table: &R) -> io::Result<()> {
+    let mut buffer = [0u8; 2050];
+    match write(table, &mut buffer) {
+        Ok(length) => show_bytes(rt, buffer.get(..length).unwrap_or_default()),
+        Err(fault) => {
+            let refusal = fault.number();
+            println!(rt; "    refused with {refusal}")
         }
     }
 }

@@ -31,7 +31,8 @@ pub struct Rows {
 impl Rows {
     ghost use Rattle.rows.specs.Held.{rows_edges};
 
-    // Whether the bit of an edge is set; only those of vault edges ever are.
+    // Whether the bit of an edge is set; only those of vault edges ever are. A cell is widened by `as`,
+    // here and below: no From makes a usize of a u32.
     fn seek(&self, edge: Edge) -> bool
         ensures { Sought edge (rows_edges self.now) result }
     {
@@ -47,7 +48,7 @@ impl Rows {
     {
         if from < 128 {
             Roles {
-                word: self.words.word(from as usize * 4 + 1),
+                word: self.words.word(usize::from(from) * 4 + 1),
             }
         } else {
             Roles::none()

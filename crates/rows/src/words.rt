@@ -17,6 +17,7 @@ impl Model for Words {
     ghost invariant = { λ w. vec_len w.words ≡ 512 };
 }
 
+// That a place or a cell is one of theirs is asked of each call: it is a fact about the argument.
 impl Words {
     ghost use Rattle.rows.specs.Flags.{bit_at, flagged};
 

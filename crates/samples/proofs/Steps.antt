@@ -1,9 +1,11 @@
--- One site of a bank altered twice, and what is struck.
-use Rattle.std.proofs.Common.{◌≡◌, ℕ, zero, suc, Bool, true, false, cond, ltb, List, [], ◌∷◌, length, Ok, Err, Result, set, sym, refl, ap, ◌∙◌}
+-- A message that is performed at one site of a bank, and then struck there.
+use Rattle.std.proofs.Common.{◌≡◌, ℕ, zero, suc, Bool, true, false, cond, ltb, List, [], ◌∷◌, length, Some, Ok, Err, Result, set, sym, refl, ap, ◌∙◌}
 use Rattle.faults.specs.declared.bank.BankFault.{BankFault}
 use Rattle.faults.specs.declared.bank.BankFault.TheVariants.{NoVault}
+use Rattle.terms.specs.declared.edges.Change.{Change}
+use Rattle.links.specs.Waiting.{first}
 use Rattle.vaults.specs.Sites.{Site, site_at, alter, strike_at, asked}
-use Rattle.samples.specs.Delivery.{struck_if}
+use Rattle.samples.specs.Delivery.{table_says, performed, struck_if, first_done, delivered}
 
 alter_twice : (f g : Site → Site) (v : ℕ) (xs : List Site) → alter v f (alter v g xs) ≡ alter v (λ x. f (g x)) xs
 alter_twice f g v [] = refl
@@ -18,11 +20,13 @@ site_says says xs v h = by (ltb v (length xs)) h
     by true q = q
     by false q = cc
 
--- ys is xs with f done at v, and zs is ys with the first message at v struck
-module _ (xs ys zs : List Site) (v : ℕ) (f : Site → Site) (struck : zs ≡ alter v strike_at ys) (done : ys ≡ alter v f xs) where
-  pub done_and_struck : zs ≡ alter v (λ x. strike_at (f x)) xs
-  done_and_struck = struck ∙ ap (λ (ws : List Site). alter v strike_at ws) done ∙ alter_twice strike_at f v xs
+first_is : (ms : List Change) (x : Site) (m : Change) → first ms ≡ Some m → table_says m x ≡ Ok tt → first_done ms x ≡ strike_at (performed m x)
+first_is [] x m h s = cc
+first_is (n ∷ ms) x m h s = let q : n ≡ m = cc in rw (q, s)
 
-  pub said_and_struck : (says : Site → Result (Unit {0}) BankFault) → asked says xs v ≡ Ok tt → zs ≡ alter v (λ x. struck_if (says x) (f x)) xs
-  said_and_struck says h =
-      done_and_struck ∙ ap (λ (r : Result (Unit {0}) BankFault). set xs v (struck_if r (f (site_at xs v)))) (sym (site_says says xs v h))
+-- ys is xs with the first message performed at v, and zs is ys with it struck
+pub performed_and_struck : (xs ys zs : List Site) (v : ℕ) (m : Change) → first (site_at xs v).waiting ≡ Some m → asked (table_says m) xs v ≡ Ok tt
+    → ys ≡ alter v (performed m) xs → zs ≡ alter v strike_at ys → zs ≡ alter v delivered xs
+performed_and_struck xs ys zs v m f ok done struck =
+    struck ∙ ap (λ (ws : List Site). alter v strike_at ws) done ∙ alter_twice strike_at (performed m) v xs
+    ∙ sym (ap (λ (x : Site). set xs v x) (first_is (site_at xs v).waiting (site_at xs v) m f (site_says (table_says m) xs v ok)))

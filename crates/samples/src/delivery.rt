@@ -1,27 +1,20 @@
 ghost use Rattle.std.specs.Prelude.{◌≡◌};
-ghost use Rattle.vaults.specs.Sites.{site_at, alter, asked, store_says, accepted};
-ghost use Rattle.samples.specs.Delivery.{put_and_struck, dropped_and_struck, delivery_answer, delivered};
+ghost use Rattle.vaults.specs.Sites.{site_at, alter, asked};
+ghost use Rattle.samples.specs.Delivery.{table_says, performed, delivery_answer, delivered};
 
 use faults::bank::BankFault;
-use terms::edges::{Change, Edge};
+use terms::edges::Change;
 use vaults::bank::Bank;
 
-// Puts an edge into a vault's table and strikes the first message; if the table refuses, it waits on.
-fn put_and_strike<B: Bank>(bank: &mut B, vault: usize, edge: Edge) -> Result<(), BankFault>
-    ensures answer { result ≡ asked (store_says edge) (B.sites bank.old) vault }
-    ensures sites { B.sites bank.new ≡ alter vault (put_and_struck edge) (B.sites bank.old) }
+// Performs a message on a vault's table.
+fn perform<B: Bank>(bank: &mut B, vault: usize, message: Change) -> Result<(), BankFault>
+    ensures answer { result ≡ asked (table_says message) (B.sites bank.old) vault }
+    ensures sites { B.sites bank.new ≡ alter vault (performed message) (B.sites bank.old) }
 {
-    bank.put(vault, edge)?;
-    bank.strike(vault)
-}
-
-// Drops an edge from a vault's table and strikes the first message.
-fn drop_and_strike<B: Bank>(bank: &mut B, vault: usize, edge: Edge) -> Result<(), BankFault>
-    ensures answer { result ≡ asked accepted (B.sites bank.old) vault }
-    ensures sites { B.sites bank.new ≡ alter vault (dropped_and_struck edge) (B.sites bank.old) }
-{
-    bank.drop(vault, edge)?;
-    bank.strike(vault)
+    match message {
+        Change::Add(edge) => bank.put(vault, edge),
+        Change::Remove(edge) => bank.drop(vault, edge),
+    }
 }
 
 // Performs the message that waits first at a vault on its table, and strikes it. One that the table
@@ -30,9 +23,9 @@ pub fn deliver<B: Bank>(bank: &mut B, vault: usize) -> Result<(), BankFault>
     ensures answer { result ≡ delivery_answer (site_at (B.sites bank.old) vault) }
     ensures sites { B.sites bank.new ≡ alter vault delivered (B.sites bank.old) }
 {
-    match bank.head(vault) {
-        Some(Change::Add(edge)) => put_and_strike(bank, vault, edge),
-        Some(Change::Remove(edge)) => drop_and_strike(bank, vault, edge),
-        None => Ok(()),
-    }
+    let Some(message) = bank.head(vault) else {
+        return Ok(());
+    };
+    perform(bank, vault, message)?;
+    bank.strike(vault)
 }

@@ -16,7 +16,8 @@ impl Limits {
         self.least <= limit && limit <= self.most
     }
 
-    // The limit of what is made with `wanted`: with any number that is none of them it is 0.
+    // The limit of what is made with `wanted`: with any number that is none of them it is 0, which is a
+    // limit too, of what takes nothing; so there is no Option.
     pub fn allow(&self, wanted: usize) -> usize
         ensures value { result ≡ limit_of self.now wanted }
         ensures bound { result ≤ self.now.most }

@@ -15,7 +15,7 @@ use vaults::bank::Bank;
 use vaults::inspection::inspect;
 use vaults::vault::Vault;
 
-// An answer as its number: 0, or that of the refusal.
+// An answer as its number: 0, or that of the refusal, as it is shown.
 fn number(answer: Result<(), BankFault>) -> u8 {
     match answer {
         Ok(()) => 0,
@@ -64,7 +64,8 @@ fn put<B: Bank>(rt: &HostRuntime, bank: &mut B, vault: usize, edge: Edge) -> io:
     show_table(rt, bank, vault)
 }
 
-// Whether two vaults hold the same edges.
+// Whether two vaults of a bank hold the same edges. A bank answers for its vaults by number, so this
+// is not the tests' comparison of two readers.
 fn same_tables<B: Bank>(bank: &B, one: usize, other: usize) -> bool {
     (0u16..128).all(|from| {
         (64u16..256).all(|to| {

@@ -8,13 +8,11 @@ use rows::rows::Rows;
 use std::test::Fail;
 use stores::store::{Made, Reader, Store};
 
-// Puts the pairs of roles with 64, 64 + gap, 64 + 2 gap and so on, until the table is full.
+// Puts the pairs of roles with the vertices that `gap` divides, until the table is full.
 fn fill<S: Store>(store: &mut S, gap: u16) {
     for from in 64u16..128 {
-        for k in 0u16..192 {
-            if k % gap.max(1) == 0 {
-                let _ = store.put(pair(from, 64 + k));
-            }
+        for to in (64u16..256).filter(|to| to % gap.max(1) == 0) {
+            let _ = store.put(pair(from, to));
         }
     }
 }
@@ -38,7 +36,7 @@ fn untouched(buffer: &[u8], from: usize) -> bool {
 // other bytes are as they were. The writer asks for no memory: it is lent the buffer.
 fn round_trip<R: Reader>(table: &R, runs: usize) -> Result<(), Fail> {
     let mut buffer = [7u8; 2060];
-    let length = write(table, &mut buffer).unwrap_or(0);
+    let length = write(table, &mut buffer).map_err(|_| Fail::new("no room for an image"))?;
     claim(
         length == runs.saturating_mul(4).saturating_add(2),
         "so many pairs",

@@ -18,7 +18,7 @@ pub struct Load {
 
 // A bank numbers its vaults from 0; each has a link and a store of any make. It means the list of
 // its sites. A change of a vault that is not there is refused with 9 and alters nothing; a question
-// about one is answered as for a vault with limits 0.
+// about one is answered as for a vault with limits 0, which needs no Option.
 pub trait Bank {
     ghost sites: { Self → List Site };
 
