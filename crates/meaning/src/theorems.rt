@@ -1,7 +1,7 @@
 // Each function stands for the theorem in its contract.
 ghost use Rattle.meaning.specs.Laws.{PathsDecided, BooksHold, OrderingDecided, RulesLawful, CallsComputed, AdministrationHolds};
 ghost use Rattle.meaning.specs.Distribution.{AsDistributed};
-ghost use Rattle.meaning.specs.Examples.{Examples};
+ghost use Rattle.meaning.specs.Examples.{Examples, TwoVaultExamples, LimitExamples};
 
 // The computed reach decides the path relation.
 pub fn paths_decided()
@@ -39,7 +39,15 @@ pub fn as_distributed()
     ensures { AsDistributed }
 {}
 
-// The worked examples.
+// The worked examples: with one vault, with two, and at the centre's own limits.
 pub fn examples_hold()
     ensures { Examples }
+{}
+
+pub fn two_vault_examples_hold()
+    ensures { TwoVaultExamples }
+{}
+
+pub fn limit_examples_hold()
+    ensures { LimitExamples }
 {}
