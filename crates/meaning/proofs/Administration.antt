@@ -1,29 +1,31 @@
 -- Tables follow the policy, nobody is held up, and precedence gains nobody anything.
-use Rattle.std.proofs.Common.{◌≡◌, ℕ, suc, Bool, true, false, cond, not, ◌⊎◌, List, [], ◌∷◌, ◌++◌, Ok, Err, sym, refl, ap, ◌∙◌, subst, inl, inr, ⊎_elim, arith}
-use Rattle.std.proofs.lemmas.Bool.{false≢true}
+use Rattle.std.proofs.Common.{◌≡◌, ℕ, suc, ◌<◌, ◌≤◌, Bool, true, false, cond, not, ◌⊎◌, List, [], ◌∷◌, ◌++◌, length, Ok, Err, sym, refl, ap, ◌∙◌, subst, inl, inr, ⊎_elim, arith}
+use Rattle.std.proofs.lemmas.Bool.{false≢true, and_from, or_left, or_right}
 use Rattle.terms.specs.declared.edges.Edge.{Edge}
 use Rattle.terms.specs.declared.edges.Change.{Change}
 use Rattle.terms.specs.declared.edges.Change.TheVariants.{Add, Remove}
-use Rattle.terms.specs.Graph.{edge, edge_of}
+use Rattle.terms.specs.Graph.{edge, edge_of, is_edge}
 use Rattle.faults.specs.declared.layers.Layer.TheVariants.{Centre}
 use Rattle.faults.specs.declared.centre.CentreFault.{CentreFault}
-use Rattle.faults.specs.declared.centre.CentreFault.TheVariants.{Store, WrongStage, NoEdge, NoUser, Unauthorised, NoVault, NoPrivilege, NothingWaiting}
+use Rattle.faults.specs.declared.centre.CentreFault.TheVariants.{NoUser, NoEdge, Unauthorised, PolicyFull, StoreRoom, LinkRoom, TooDeep, NamesFull, NoVault, NoPrivilege, NothingWaiting, WrongStage, Link, Store}
 use Rattle.faults.specs.Numbers.{centre_layer}
 use Rattle.calls.specs.declared.call.Call.{Call}
 use Rattle.calls.specs.declared.call.Call.TheVariants.{Declare, Keep, EndNaming, Seat, Open, Command, Apply, Deliver}
 use Rattle.calls.specs.declared.call.CallRecord.{CallRecord}
-use Rattle.model.specs.EdgeSets.{Edges, has, insert, delete, ◌∉◌}
+use Rattle.model.specs.EdgeSets.{Edges, has, all_edges, insert, delete, perform, ◌∈◌, ◌∉◌}
+use Rattle.model.proofs.Order.{same_refl}
 use Rattle.model.proofs.Members.{delete_old, delete_gone}
 use Rattle.vaults.specs.Sites.{Site}
 use Rattle.meaning.specs.Paths.{User, Reach}
-use Rattle.meaning.specs.Privileges.{Names, Proper, declared}
+use Rattle.meaning.specs.Privileges.{Names, Proper, Shallow, declared}
 use Rattle.meaning.specs.Precedence.{Rule, Lawful}
 use Rattle.meaning.specs.Installation.{Vault, Stage, naming, seating, service, Installation, vault_at, with_policy}
 use Rattle.meaning.specs.Sending.{Brings, Each, Plan, taken, send_each}
 use Rattle.meaning.specs.Questions.{HasLinkRoom, in_seating, in_service, Question, asks, AllYes, FirstNo, Authorised, at_each, store_room, link_room, refused_by, link_takes, alters, room, for_change, head_answer, for_head, own_questions, questions}
 use Rattle.meaning.specs.Outcomes.{Answer, value, requested, Planned, changed, after, Performs, accepts, refuses}
 use Rattle.meaning.specs.Runs.{recorded, Run, ends, calls, Reached}
-use Rattle.meaning.specs.Laws.{BooksHold, OrderingDecided, TablesFollow, NobodyHeldUp, Entry, Plain, nothing, adding, Accepted, now, later, ByUsers, GainsNothing, Administered, AdministrationHolds}
+use Rattle.meaning.specs.Laws.{BooksHold, NumbersAnswered, LimitsHold, OrderingDecided, TablesFollow, Made, NobodyHeldUp, Entry, Plain, nothing, adding, Accepted, now, later, ByUsers, GainsNothing, Administered, AdministrationHolds}
+use Rattle.meaning.proofs.Privileges.{names_answered, edge_by_number}
 use Rattle.meaning.proofs.Ordering.{full_decides}
 use Rattle.meaning.proofs.Covering.{Sound, Covers, carry, cover_add, covers_refl}
 use Rattle.meaning.proofs.Asking.{first_append, none_refused, Asked, asked_append, asked_each, asked_cond}
@@ -34,10 +36,41 @@ use Rattle.meaning.proofs.Invariant.{Fine, Roomy, room_each, due_vault, fine_per
 pub reached_fine : {rule : Rule} {w : Installation} → Reached rule w → Fine w
 reached_fine (ls, h, r) = fine_run (fine_begin ls) r
 
+every_edge : (s : Edges) → ((e : Edge) → e ∈ s → is_edge e ≡ true) → all_edges s ≡ true
+every_edge [] h = refl
+every_edge (d ∷ s) h = and_from (is_edge d) (all_edges s) (h d (or_left _ _ (same_refl d))) (every_edge s (λ e k. h e (or_right _ _ k)))
+
 pub books_hold : BooksHold
 books_hold rule w r =
     let f = reached_fine r in
-    record { formed = f.formed; ascending = f.ordered; few_edges = f.few_edges; few_names = f.few_names }
+    record {
+      formed = f.formed;
+      ascending = f.ordered;
+      few_edges = f.few_edges;
+      few_names = f.few_names;
+      edges = every_edge w.policy (λ e h. edge_by_number f.few_names (f.formed.held e h));
+      single = λ p q c m n. let i = f.single m.0 n.0 c m.2 n.2 in omega arith;
+    }
+
+-- answers
+ok_equal : {m n : ℕ} → ◌≡◌ {A = Answer} (Ok m) (Ok n) → m ≡ n
+ok_equal q = cc
+
+err_equal : {f g : CentreFault} → ◌≡◌ {A = Answer} (Err f) (Err g) → f ≡ g
+err_equal q = cc
+
+ok_err : {n : ℕ} {g : CentreFault} → ◌≡◌ {A = Answer} (Ok n) (Err g) → ⊥
+ok_err q = let z : ◌≡◌ {A = ℕ} 0 1 = cc in omega arith
+
+-- a call, or an answer, is a variable with an equation where that is quicker to take apart
+answered : {rule : Rule} {w x : Installation} {a : Answer} (c : Change) (n : ℕ) (d : Call) → d ≡ Declare c → a ≡ Ok n → Performs rule w d a x → Names x.declared n c
+answered {w = w} c n d q k (accepts mss plan y) =
+    subst (λ (m : ℕ). Names (after w d mss).declared m c) (ok_equal k)
+    (subst (λ (d : Call). Names (after w d mss).declared (value w d) c) (sym q) (names_answered w.declared c))
+answered c n d q k (refuses mss plan x) = absurd (ok_err (sym k))
+
+pub numbers_answered : NumbersAnswered
+numbers_answered rule w x c n p = answered c n (Declare c) refl refl p
 
 pub ordering_decided : OrderingDecided
 ordering_decided rule w r p c d n q = full_decides (reached_fine r).formed c d q
@@ -69,7 +102,6 @@ no_refusal i (v ∷ vs) (ms ∷ mss) k = rw k.0 (no_refusal (suc i) vs mss k.1)
 
 -- (b) a withdrawal
 
--- the call is a variable with an equation, which is quicker to take apart
 withdrawal_accepted : {rule : Rule} {w x : Installation} {a : Answer} (u p : ℕ) (e : Edge) → Lawful rule → Fine w → in_service w.stage ≡ true → User u
     → Names w.declared p (Remove e) → Reach w.policy u p → (c : Call) → c ≡ Command u (Remove e) → Performs rule w c a x → (a ≡ Ok 0) × (e ∉ x.policy)
 withdrawal_accepted {rule} {w} u p e law f s b n r c q (accepts mss plan y) = (
@@ -95,80 +127,141 @@ withdrawal_accepted {rule} {w} u p e law f s b n r c q (refuses {f = g} mss plan
     room_enough true = rw (no_refusal 0 w.vaults mss (each_taken w (Remove e) mss f proper plan' tt)) tt
     room_enough false = tt
 
--- (b) every refusal is the centre's own
+-- (b) what is made already
 
-own : (f g : CentreFault) → centre_layer f ≡ Centre → {A R : Type 0} → (A → R → centre_layer g ≡ Centre) → ((¬ A) × (g ≡ f)) ⊎ (A × R) → centre_layer g ≡ Centre
-own f g l k (inl n) = ap centre_layer n.1 ∙ l
-own f g l k (inr n) = k n.0 n.1
-
-abbrev Own : List Question → Type 0
-Own = Asked (λ f A b. centre_layer f ≡ Centre)
-
-own_first : (qs : List Question) (g : CentreFault) → Own qs → FirstNo qs g → centre_layer g ≡ Centre
-own_first [] g h n = absurd n
-own_first (asks f A b ∷ qs) g h n = own f g h.0 (λ a m. own_first qs g h.1 m) n
-
-own_room : (w : Installation) (c : Change) (mss : List (List Change)) → Own (room w c mss)
-own_room w (Add e) mss = (
-  refl,
-  asked_append _ (at_each store_room 0 w.vaults mss) (at_each link_room 0 w.vaults mss)
-      (asked_each _ store_room (λ i v ms. (refl, tt)) 0 w.vaults mss) (asked_each _ link_room (λ i v ms. (refl, tt)) 0 w.vaults mss),
+made_accepted : {rule : Rule} {w x : Installation} {a : Answer} (u : ℕ) (c : Change) → in_service w.stage ≡ true → User u → Proper w.declared (edge_of c)
+    → Authorised rule w u c → alters c w.policy ≡ false → (d : Call) → d ≡ Command u c → Performs rule w d a x → (a ≡ Ok 0) × (x ≡ w)
+made_accepted {rule} {w} u c s b p o n d q (accepts mss plan y) = (
+  ap (λ (d : Call). Ok (value w d)) q,
+  ap (λ (d : Call). after w d mss) q ∙ ap (λ (t : Bool). cond t (with_policy (perform c w.policy) (send_each mss w.vaults) w) w) n,
 )
-own_room w (Remove e) mss = tt
-
-own_change : (w : Installation) (c : Change) (mss : List (List Change)) (g : CentreFault) → Fine w → Proper w.declared (edge_of c)
-    → Plan w.policy c w.vaults mss → FirstNo (for_change w c mss) g → centre_layer g ≡ Centre
-own_change w c mss g f p plan n = by (alters c w.policy) n
+made_accepted {rule} {w} u c s b p o n d q (refuses {f = g} mss plan x) =
+    absurd (none_refused g (questions rule w (Command u c) mss) (s, (b, (p, (o, nothing_more))))
+    (subst (λ (d : Call). FirstNo (questions rule w d mss) g) q x))
   where
-    taken_all : AllYes (room w c mss) → FirstNo (at_each link_takes 0 w.vaults mss) g → ⊥
-    taken_all y m = subst (λ (qs : List Question). FirstNo qs g) (no_refusal 0 w.vaults mss (each_taken w c mss f p plan y)) m
+    nothing_more : AllYes (for_change w c mss)
+    nothing_more = rw n tt
 
-    by : (b : Bool) → FirstNo (cond b (room w c mss ++ at_each link_takes 0 w.vaults mss) []) g → centre_layer g ≡ Centre
-    by true n =
-        ⊎_elim (own_first (room w c mss) g (own_room w c mss)) (λ k. absurd (taken_all k.0 k.1)) (first_append (room w c mss) (at_each link_takes 0 w.vaults mss) g n)
-    by false n = absurd n
+alters_not : (c : Change) (s : Edges) → Made c s → alters c s ≡ false
+alters_not (Add e) s h = rw h refl
+alters_not (Remove e) s h = h
 
-own_head : (w : Installation) (i : ℕ) (g : CentreFault) → Fine w → FirstNo (for_head w i (vault_at w.vaults i).site) g → centre_layer g ≡ Centre
-own_head w i g f n = own NoVault g refl (λ a m. own NothingWaiting g refl (λ b k. absurd (silent k)) m) n
-  where
-    site : Site
-    site = (vault_at w.vaults i).site
+-- What a refusal says of the installation and of the call: never is it a link's or a store's
 
-    accepts_head : head_answer site.waiting site ≡ Ok tt
-    accepts_head = every_at (λ v. head_answer v.site.waiting v.site ≡ Ok tt) refl w.vaults i
-        (every_to (Good w.policy) (λ v. head_answer v.site.waiting v.site ≡ Ok tt) (head_taken w.policy) w.vaults f.each)
+abbrev Says : Installation → Call → CentreFault → Type 0
+Says w c NoUser = Unit {0}
+Says w c NoEdge = Unit {0}
+Says w c Unauthorised = Unit {0}
+Says w c PolicyFull = length w.policy ≡ 512
+Says w c (StoreRoom i) = length w.policy < 512
+Says w c (LinkRoom i) = length w.policy < 512
+Says w c TooDeep = (d : Change) × (c ≡ Declare d) × (¬ Shallow w.declared 8 d)
+Says w c NamesFull = length w.declared ≡ 128
+Says w c NoVault = Unit {0}
+Says w c NoPrivilege = Unit {0}
+Says w c NothingWaiting = Unit {0}
+Says w c WrongStage = Unit {0}
+Says w c (Link i f) = ⊥
+Says w c (Store i f) = ⊥
 
-    silent : FirstNo (refused_by (Store (record { vault = i })) (head_answer site.waiting site)) g → ⊥
-    silent k = subst (λ r. FirstNo (refused_by (Store (record { vault = i })) r) g) accepts_head k
+own : (w : Installation) (c : Call) (f : CentreFault) → Says w c f → centre_layer f ≡ Centre
+own w c NoUser h = refl
+own w c NoEdge h = refl
+own w c Unauthorised h = refl
+own w c PolicyFull h = refl
+own w c (StoreRoom i) h = refl
+own w c (LinkRoom i) h = refl
+own w c TooDeep h = refl
+own w c NamesFull h = refl
+own w c NoVault h = refl
+own w c NoPrivilege h = refl
+own w c NothingWaiting h = refl
+own w c WrongStage h = refl
+own w c (Link i f) h = absurd h
+own w c (Store i f) h = absurd h
 
-own_refusal : (rule : Rule) (w : Installation) (c : Call) (mss : List (List Change)) (g : CentreFault) → Fine w → Planned w (requested c) mss
-    → FirstNo (own_questions rule w c mss) g → centre_layer g ≡ Centre
-own_refusal rule w (Declare c) mss g f plan n =
-    own_first (own_questions rule w (Declare c) mss) g (refl, asked_cond _ (declared w.declared c) [] _ tt (refl, (refl, tt))) n
-own_refusal rule w (Keep i p) mss g f plan n = own NoVault g refl (λ a m. own NoPrivilege g refl (λ b k. absurd k) m) n
-own_refusal rule w EndNaming mss g f plan n = absurd n
-own_refusal rule w (Seat e) mss g f plan n = own NoEdge g refl (λ a m. own_change w (Add e) mss g f a plan m) n
-own_refusal rule w Open mss g f plan n = absurd n
-own_refusal rule w (Command u c) mss g f plan n =
-    own NoUser g refl (λ a m. own NoEdge g refl (λ p k. own Unauthorised g refl (λ b l. own_change w c mss g f p plan l) k) m) n
-own_refusal rule w (Apply i) mss g f plan n = own_head w i g f n
-own_refusal rule w (Deliver i) mss g f plan n = own_head w i g f n
+-- the call d, of which c is the change
+module _ (w : Installation) (d : Call) (g : CentreFault) where
+  says : {A R : Type 0} (f : CentreFault) → ((¬ A) → Says w d f) → (A → R → Says w d g) → ((¬ A) × (g ≡ f)) ⊎ (A × R) → Says w d g
+  says f l k (inl n) = subst (Says w d) (sym n.1) (l n.0)
+  says f l k (inr n) = k n.0 n.1
 
-err_equal : {f g : CentreFault} → ◌≡◌ {A = Answer} (Err f) (Err g) → f ≡ g
-err_equal q = cc
+  says_first : (qs : List Question) → Asked (λ f A b. (¬ A) → Says w d f) qs → FirstNo qs g → Says w d g
+  says_first [] h n = absurd n
+  says_first (asks f A b ∷ qs) h n = says f h.0 (λ a m. says_first qs h.1 m) n
 
-ok_err : {n : ℕ} {g : CentreFault} → ◌≡◌ {A = Answer} (Ok n) (Err g) → ⊥
-ok_err q = let z : ◌≡◌ {A = ℕ} 0 1 = cc in omega arith
+  says_room : (c : Change) (mss : List (List Change)) → length w.policy ≤ 512 → FirstNo (room w c mss) g → Says w d g
+  says_room (Add e) mss l n = says PolicyFull (λ k. omega arith) (λ a m. says_first _ (vaults a) m) n
+    where
+      vaults : length w.policy < 512 → Asked (λ f A b. (¬ A) → Says w d f) (at_each store_room 0 w.vaults mss ++ at_each link_room 0 w.vaults mss)
+      vaults a =
+          asked_append _ (at_each store_room 0 w.vaults mss) (at_each link_room 0 w.vaults mss)
+          (asked_each _ store_room (λ i v ms. (λ k. a, tt)) 0 w.vaults mss) (asked_each _ link_room (λ i v ms. (λ k. a, tt)) 0 w.vaults mss)
+  says_room (Remove e) mss l n = absurd n
 
-refusal_own : {rule : Rule} {w x : Installation} {c : Call} {a : Answer} (g : CentreFault) → Fine w → Performs rule w c a x → a ≡ Err g → centre_layer g ≡ Centre
-refusal_own g f (accepts mss plan y) q = absurd (ok_err q)
-refusal_own {rule} {w} {c = c} g f (refuses {f = h} mss plan n) q =
-    subst (λ (k : CentreFault). centre_layer k ≡ Centre) (err_equal q) (own WrongStage h refl (λ a m. own_refusal rule w c mss h f plan m) n)
+  says_change : (c : Change) (mss : List (List Change)) → Fine w → Proper w.declared (edge_of c)
+      → Plan w.policy c w.vaults mss → FirstNo (for_change w c mss) g → Says w d g
+  says_change c mss f p plan n = by (alters c w.policy) n
+    where
+      taken_all : AllYes (room w c mss) → FirstNo (at_each link_takes 0 w.vaults mss) g → ⊥
+      taken_all y m = subst (λ (qs : List Question). FirstNo qs g) (no_refusal 0 w.vaults mss (each_taken w c mss f p plan y)) m
+
+      by : (b : Bool) → FirstNo (cond b (room w c mss ++ at_each link_takes 0 w.vaults mss) []) g → Says w d g
+      by true n =
+          ⊎_elim (says_room c mss f.few_edges) (λ k. absurd (taken_all k.0 k.1)) (first_append (room w c mss) (at_each link_takes 0 w.vaults mss) g n)
+      by false n = absurd n
+
+  says_head : (i : ℕ) → Fine w → FirstNo (for_head w i (vault_at w.vaults i).site) g → Says w d g
+  says_head i f n = says NoVault (λ k. tt) (λ a m. says NothingWaiting (λ k. tt) (λ b k. absurd (silent k)) m) n
+    where
+      site : Site
+      site = (vault_at w.vaults i).site
+
+      accepts_head : head_answer site.waiting site ≡ Ok tt
+      accepts_head = every_at (λ v. head_answer v.site.waiting v.site ≡ Ok tt) refl w.vaults i
+          (every_to (Good w.policy) (λ v. head_answer v.site.waiting v.site ≡ Ok tt) (head_taken w.policy) w.vaults f.each)
+
+      silent : FirstNo (refused_by (Store (record { vault = i })) (head_answer site.waiting site)) g → ⊥
+      silent k = subst (λ r. FirstNo (refused_by (Store (record { vault = i })) r) g) accepts_head k
+
+says_own : (rule : Rule) (w : Installation) (c : Call) (mss : List (List Change)) (g : CentreFault) → Fine w → Planned w (requested c) mss
+    → FirstNo (own_questions rule w c mss) g → Says w c g
+says_own rule w (Declare c) mss g f plan n =
+    says_first w (Declare c) g (own_questions rule w (Declare c) mss)
+    (λ k. tt, asked_cond _ (declared w.declared c) [] _ tt (λ k. (c, refl, k), (λ k. let l = f.few_names in omega arith, tt))) n
+says_own rule w (Keep i p) mss g f plan n =
+    says w (Keep i p) g NoVault (λ k. tt) (λ a m. says w (Keep i p) g NoPrivilege (λ k. tt) (λ b k. absurd k) m) n
+says_own rule w EndNaming mss g f plan n = absurd n
+says_own rule w (Seat e) mss g f plan n = says w (Seat e) g NoEdge (λ k. tt) (λ a m. says_change w (Seat e) g (Add e) mss f a plan m) n
+says_own rule w Open mss g f plan n = absurd n
+says_own rule w (Command u c) mss g f plan n =
+    let d : Call = Command u c in
+    says w d g NoUser (λ k. tt)
+    (λ a m. says w d g NoEdge (λ k. tt) (λ p k. says w d g Unauthorised (λ k. tt) (λ b l. says_change w d g c mss f p plan l) k) m) n
+says_own rule w (Apply i) mss g f plan n = says_head w (Apply i) g i f n
+says_own rule w (Deliver i) mss g f plan n = says_head w (Deliver i) g i f n
+
+refusal_says : {rule : Rule} {w x : Installation} {c : Call} {a : Answer} (g : CentreFault) → Fine w → Performs rule w c a x → a ≡ Err g → Says w c g
+refusal_says g f (accepts mss plan y) q = absurd (ok_err q)
+refusal_says {rule} {w} {c = c} g f (refuses {f = h} mss plan n) q =
+    subst (Says w c) (err_equal q) (says w c h WrongStage (λ k. tt) (λ a m. says_own rule w c mss h f plan m) n)
+
+pub limits_hold : LimitsHold
+limits_hold rule w r c x =
+    let f = reached_fine r in
+    record {
+      policy = λ p. refusal_says PolicyFull f p refl;
+      names = λ p. refusal_says NamesFull f p refl;
+      depth = λ p. refusal_says TooDeep f p refl;
+      stores = λ i p. refusal_says (StoreRoom i) f p refl;
+      links = λ i p. refusal_says (LinkRoom i) f p refl;
+    }
 
 nobody_held_up : (rule : Rule) (w : Installation) → Lawful rule → Fine w → NobodyHeldUp rule w
 nobody_held_up rule w law f = record {
   withdrawal = λ u p e s b n r a x k. withdrawal_accepted u p e law f (ap in_service s) b n r (Command u (Remove e)) refl k;
-  refusals = λ c g x k. refusal_own g f k refl;
+  made = λ u c s b p o m a x k. made_accepted u c (ap in_service s) b p o (alters_not c w.policy m) (Command u c) refl k;
+  refusals = λ c g x k. own w c g (refusal_says g f k refl);
 }
 
 -- (c) Every call since the opening keeps a covering policy, an accepted addition by one plain entry of the same user

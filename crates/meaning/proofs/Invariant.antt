@@ -21,7 +21,7 @@ use Rattle.meaning.specs.Sending.{Due, Upper, Brings, Each, Plan, send, send_eac
 use Rattle.meaning.specs.Questions.{HasStoreRoom, HasLinkRoom, in_naming, in_seating, in_service, asks, AllYes, at_each, store_room, link_room, link_takes, alters, room, for_change, questions}
 use Rattle.meaning.specs.Outcomes.{Answer, requested, Planned, changed, applied, delivered, after, Performs, accepts, refuses}
 use Rattle.meaning.specs.Runs.{Run, ends, calls}
-use Rattle.meaning.proofs.Privileges.{some_none, declared_at, nth_declaring, proper_declaring, shallow_declaring, vault_of}
+use Rattle.meaning.proofs.Privileges.{some_none, declared_at, nth_declaring, proper_declaring, shallow_declaring, Single, single_declaring, vault_of}
 use Rattle.meaning.proofs.Covering.{Sound, stays}
 use Rattle.meaning.proofs.Covering as covering
 use Rattle.meaning.proofs.Messages.{insert_most}
@@ -36,6 +36,7 @@ pub record Fine (w : Installation) : Type 0 where
   pub ordered : Ascending w.policy
   pub few_edges : length w.policy ≤ 512
   pub few_names : length w.declared ≤ 128
+  pub single : Single w.declared
   pub each : Every (Good w.policy) w.vaults
 
 -- what is due at a vault are vault edges
@@ -72,6 +73,7 @@ fine_carried w (Add e) mss n p plan y f = record {
   ordered = insert_ascending e w.policy f.ordered;
   few_edges = let k = insert_most e w.policy f.ordered in let l = y.0 in omega arith;
   few_names = f.few_names;
+  single = f.single;
   each = each_sent (Good w.policy) (Good (insert e w.policy)) (λ v ms. Roomy v ms × Brings w.policy (Add e) v ms) one w.vaults mss f.each
       (each_both Roomy (Brings w.policy (Add e)) w.vaults mss (room_each w e mss plan y) plan);
 }
@@ -90,6 +92,7 @@ fine_carried w (Remove e) mss n p plan y f = record {
   ordered = delete_ascending e w.policy f.ordered;
   few_edges = let k = length_delete_most e w.policy in let l = f.few_edges in omega arith;
   few_names = f.few_names;
+  single = f.single;
   each = each_sent (Good w.policy) (Good (delete e w.policy)) (Brings w.policy (Remove e)) (λ v ms g b. rw b (good_remove w.policy e v g)) w.vaults mss f.each plan;
 }
 
@@ -115,11 +118,11 @@ service_later service h k = false≢true k
 
 fine_vaults : (w : Installation) (vs : List Vault) → Fine w → Every (Good w.policy) vs → Fine (with_vaults vs w)
 fine_vaults w vs f e = record
-    { formed = f.formed; fresh = f.fresh; ordered = f.ordered; few_edges = f.few_edges; few_names = f.few_names; each = e }
+    { formed = f.formed; fresh = f.fresh; ordered = f.ordered; few_edges = f.few_edges; few_names = f.few_names; single = f.single; each = e }
 
 fine_stage : (t : Stage) (w : Installation) → Fine w → (in_naming t ≡ true → w.policy ≡ []) → Fine (at_stage t w)
 fine_stage t w f h = record
-    { formed = f.formed; fresh = h; ordered = f.ordered; few_edges = f.few_edges; few_names = f.few_names; each = f.each }
+    { formed = f.formed; fresh = h; ordered = f.ordered; few_edges = f.few_edges; few_names = f.few_names; single = f.single; each = f.each }
 
 -- declaring
 few_declaring : (D : List Change) (c : Change) → length D ≤ 128 → (declared D c ≡ false → length D < 128) → length (declaring D c) ≤ 128
@@ -141,6 +144,7 @@ fine_after rule w (Declare c) mss plan y f = record {
   ordered = f.ordered;
   few_edges = f.few_edges;
   few_names = few_declaring w.declared c f.few_names (λ q. (asked (declared w.declared c) q y.1.1).1);
+  single = single_declaring w.declared c f.single;
   each = f.each;
 }
   where
@@ -185,5 +189,6 @@ fine_begin ls = record {
   ordered = refl;
   few_edges = omega arith;
   few_names = omega arith;
+  single = λ i j c p q. absurd (some_none p);
   each = every_map empty (Good []) good_empty ls;
 }

@@ -10,7 +10,7 @@ use Rattle.model.proofs.Order.{same_refl}
 use Rattle.meaning.specs.Paths.{Subject, Role, UserPrivilege, Reach, reaches}
 use Rattle.meaning.specs.Privileges.{Proper, assigns, inherits, permits, administers, Depth, flat, around, Shallow, alike, named}
 use Rattle.meaning.specs.Precedence.{Over, itself, narrower, grants, delegates, Formed, all_subjects, both_roles, over, full_rule}
-use Rattle.meaning.specs.Laws.{RulesLawful}
+use Rattle.meaning.specs.Laws.{RemovalsUnordered, RulesLawful}
 use Rattle.meaning.proofs.Decisions.{Decides, both, less, equal}
 use Rattle.meaning.proofs.Paths.{reach_trans, reach_mono, paths_decided}
 use Rattle.meaning.proofs.Privileges.{names_unique, named_names, names_named, alike_refl, alike_equal, role_decides, user_privilege_decides, depth_positive, inner_depth}
@@ -41,6 +41,24 @@ over_paths f (delegates a b r m n o) = delegates a b (f _ _ (omega arith) r) m n
 
 pub over_mono : {D : List Change} {s t : Edges} → ((e : Edge) → e ∈ s → e ∈ t) → {c d : Change} → Over D s c d → Over D t c d
 over_mono f o = over_paths (λ x y l r. reach_mono f r) o
+
+pub removals_unordered : RemovalsUnordered
+removals_unordered D s e c = (λ o. under o refl, λ o. above o refl)
+  where
+    no_addition : {A : Type 0} {d : Edge} → Add d ≡ Remove e → A
+    no_addition q = absurd (let z : ◌≡◌ {A = ℕ} 0 1 = cc in omega arith)
+
+    under : {x y : Change} → Over D s x y → x ≡ Remove e → y ≡ Remove e
+    under itself q = q
+    under (narrower a b c d r t) q = no_addition q
+    under (grants a b r u) q = no_addition q
+    under (delegates a b r m n o) q = no_addition q
+
+    above : {x y : Change} → Over D s x y → y ≡ Remove e → x ≡ Remove e
+    above itself q = q
+    above (narrower a b c d r t) q = no_addition q
+    above (grants a b r u) q = no_addition q
+    above (delegates a b r m n o) q = no_addition q
 
 -- The full rule
 

@@ -169,7 +169,7 @@ pub record TwoVaultExamples : Type 0 where
   pub told_already : shown_at 0 wide seated_two (Seat (edge 64 128)) ≡ sent 64 128
   pub held_already : shown_at 0 wide shared (adds 64 129) ≡ silent (Ok 0)
   pub absent_already : shown_at 0 wide opened_two (removes 2 64) ≡ silent (Ok 0)
-  -- the privilege ordering: r0 is above r1, u3 below r2, r3 above r0
+  -- the privilege ordering: r0 is above r1, u3 in r2, r3 above r0
   pub narrower : shown_at 0 wide opened_two (adds 3 64) ≡ sent 3 64
   pub narrower_elsewhere : shown_at 0 wide opened_two (adds 1 64) ≡ silent (Err Unauthorised)
   pub narrower_to_privilege : shown_at 0 wide opened_two (adds 66 128) ≡ silent (Err Unauthorised)

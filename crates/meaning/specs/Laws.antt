@@ -1,21 +1,24 @@
 -- What holds of every run.
-use Rattle.std.specs.Prelude.{◌≡◌, ℕ, ◌≤◌, true, cond, ◌⊎◌, ◌↔◌, List, [], ◌∷◌, length, Some, None, Ok, Err, Option}
+use Rattle.std.specs.Prelude.{◌≡◌, ℕ, ◌<◌, ◌≤◌, true, cond, ◌⊎◌, ◌↔◌, List, [], ◌∷◌, length, Some, None, Ok, Err, Option}
 use Rattle.std.specs.List.{slice_get}
 use Rattle.terms.specs.declared.edges.Edge.{Edge}
 use Rattle.terms.specs.declared.edges.Change.{Change}
 use Rattle.terms.specs.declared.edges.Change.TheVariants.{Add, Remove}
 use Rattle.terms.specs.Graph.{edge_of, same}
 use Rattle.faults.specs.declared.layers.Layer.TheVariants.{Centre}
+use Rattle.faults.specs.declared.centre.VaultPlace.{VaultPlace}
 use Rattle.faults.specs.declared.centre.CentreFault.{CentreFault}
+use Rattle.faults.specs.declared.centre.CentreFault.TheVariants.{PolicyFull, StoreRoom, LinkRoom, TooDeep, NamesFull}
 use Rattle.faults.specs.Numbers.{centre_layer}
 use Rattle.calls.specs.declared.call.Call.{Call}
-use Rattle.calls.specs.declared.call.Call.TheVariants.{Open, Command}
+use Rattle.calls.specs.declared.call.Call.TheVariants.{Declare, Open, Command}
 use Rattle.calls.specs.declared.call.CallRecord.{CallRecord}
-use Rattle.model.specs.EdgeSets.{Edges, Ascending, insert, ◌∈◌, ◌∉◌}
+use Rattle.model.specs.EdgeSets.{Edges, Ascending, all_edges, insert, ◌∈◌, ◌∉◌}
 use Rattle.meaning.specs.Paths.{User, UserPrivilege, Reach, Leads, reaches}
-use Rattle.meaning.specs.Privileges.{Names, Proper}
+use Rattle.meaning.specs.Privileges.{Names, Proper, Shallow}
 use Rattle.meaning.specs.Precedence.{Over, Rule, Formed, Lawful, plain_rule, full_rule}
 use Rattle.meaning.specs.Installation.{Vault, Installation, service, Limits, begin}
+use Rattle.meaning.specs.Questions.{Authorised}
 use Rattle.meaning.specs.Outcomes.{Answer, Performs, outcome}
 use Rattle.meaning.specs.Runs.{recorded, Run, Reached, records, played}
 
@@ -30,14 +33,37 @@ pub record BooksKept (w : Installation) : Type 0 where
   pub ascending : Ascending w.policy
   pub few_edges : length w.policy ≤ 512
   pub few_names : length w.declared ≤ 128
+  pub edges : all_edges w.policy ≡ true
+  -- no change has two numbers
+  pub single : (p q : ℕ) (c : Change) → Names w.declared p c → Names w.declared q c → p ≡ q
 
 abbrev pub BooksHold : Type 0
 BooksHold = (rule : Rule) (w : Installation) → Reached rule w → BooksKept w
+
+-- the number answered is that of the change from then on
+abbrev pub NumbersAnswered : Type 0
+NumbersAnswered = (rule : Rule) (w x : Installation) (c : Change) (n : ℕ) → Performs rule w (Declare c) (Ok n) x → Names x.declared n c
+
+-- a limit refuses only what is beyond it, and the room at the vaults is asked for only where the policy has room
+pub record LimitsExact (rule : Rule) (w : Installation) (c : Call) (x : Installation) : Type 0 where
+  pub policy : Performs rule w c (Err PolicyFull) x → length w.policy ≡ 512
+  pub names : Performs rule w c (Err NamesFull) x → length w.declared ≡ 128
+  pub depth : Performs rule w c (Err TooDeep) x → (d : Change) × (c ≡ Declare d) × (¬ Shallow w.declared 8 d)
+  pub stores : (i : VaultPlace) → Performs rule w c (Err (StoreRoom i)) x → length w.policy < 512
+  pub links : (i : VaultPlace) → Performs rule w c (Err (LinkRoom i)) x → length w.policy < 512
+
+abbrev pub LimitsHold : Type 0
+LimitsHold = (rule : Rule) (w : Installation) → Reached rule w → (c : Call) (x : Installation) → LimitsExact rule w c x
 
 -- of a declared privilege and of any that can be wanted in a run
 abbrev pub OrderingDecided : Type 0
 OrderingDecided = (rule : Rule) (w : Installation) → Reached rule w → (p : ℕ) (c d : Change) → Names w.declared p c → Proper w.declared (edge_of d)
     → (full_rule w.declared w.policy c d ≡ true) ↔ Over w.declared w.policy c d
+
+-- a removal stands over itself only, and nothing else stands over it
+abbrev pub RemovalsUnordered : Type 0
+RemovalsUnordered = (D : List Change) (s : Edges) (e : Edge) (c : Change)
+    → (Over D s (Remove e) c → c ≡ Remove e) × (Over D s c (Remove e) → c ≡ Remove e)
 
 abbrev pub RulesLawful : Type 0
 RulesLawful = Lawful plain_rule × Lawful full_rule
@@ -74,10 +100,18 @@ TablesFollow w = (i : ℕ) (v : Vault) → slice_get w.vaults i ≡ Some v → F
 
 -- (b) Nobody is held up
 
+-- a change that is made already
+abbrev pub Made : Change → Edges → Type 0
+Made (Add e) s = e ∈ s
+Made (Remove e) s = e ∉ s
+
 pub record NobodyHeldUp (rule : Rule) (w : Installation) : Type 0 where
   -- whoever reaches the privilege to remove an edge removes it
   pub withdrawal : (u p : ℕ) (e : Edge) → w.stage ≡ service → User u → Names w.declared p (Remove e) → Reach w.policy u p
       → (a : Answer) (x : Installation) → Performs rule w (Command u (Remove e)) a x → (a ≡ Ok 0) × (e ∉ x.policy)
+  -- whoever is authorised may ask for what is made already, and alters nothing
+  pub made : (u : ℕ) (c : Change) → w.stage ≡ service → User u → Proper w.declared (edge_of c) → Authorised rule w u c → Made c w.policy
+      → (a : Answer) (x : Installation) → Performs rule w (Command u c) a x → (a ≡ Ok 0) × (x ≡ w)
   -- no link and no store refuses what a call does: every refusal is the centre's own
   pub refusals : (c : Call) (f : CentreFault) (x : Installation) → Performs rule w c (Err f) x → centre_layer f ≡ Centre
 

@@ -1,5 +1,5 @@
 // Each function stands for the theorem in its contract.
-ghost use Rattle.meaning.specs.Laws.{PathsDecided, BooksHold, OrderingDecided, RulesLawful, CallsComputed, AdministrationHolds};
+ghost use Rattle.meaning.specs.Laws.{PathsDecided, BooksHold, NumbersAnswered, LimitsHold, OrderingDecided, RemovalsUnordered, RulesLawful, CallsComputed, AdministrationHolds};
 ghost use Rattle.meaning.specs.Distribution.{AsDistributed};
 ghost use Rattle.meaning.specs.Examples.{Examples, TwoVaultExamples, LimitExamples};
 
@@ -9,15 +9,19 @@ pub fn paths_decided()
 {}
 
 // In every run: at most 512 edges and 128 declared privileges, none nested deeper than 8, and all of
-// them edges.
+// them edges. A declared privilege has one number, the one answered, and the limits refuse only what is
+// beyond them.
 pub fn books_hold()
-    ensures { BooksHold }
+    ensures kept { BooksHold }
+    ensures numbers { NumbersAnswered }
+    ensures limits { LimitsHold }
 {}
 
 // In every run the full rule decides the privilege ordering; the plain rule and the full rule keep
-// both laws of a rule.
+// both laws of a rule. Removals are not ordered.
 pub fn ordering_decided()
     ensures decided { OrderingDecided }
+    ensures removals { RemovalsUnordered }
     ensures lawful { RulesLawful }
 {}
 
