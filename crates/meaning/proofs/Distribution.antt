@@ -15,11 +15,11 @@ use Rattle.model.proofs.Ascents.{insert_held}
 use Rattle.meaning.specs.Paths.{step}
 use Rattle.meaning.specs.Precedence.{Rule}
 use Rattle.meaning.specs.Installation.{Vault, Installation, empty, begin, with_policy, with_site, keeping}
-use Rattle.meaning.specs.Sending.{performs, Concerns, Upper, Brings, Plan, withdrawals, send, send_each}
+use Rattle.meaning.specs.Sending.{performs, Brings, Plan, withdrawals, send, send_each}
 use Rattle.meaning.specs.Questions.{in_naming, AllYes, questions}
 use Rattle.meaning.specs.Outcomes.{Answer, value, requested, Planned, changed, applied, delivered, after, Performs, accepts, refuses}
 use Rattle.meaning.specs.Runs.{Run, ends, calls}
-use Rattle.meaning.specs.Distribution.{Spread, nowhere, spread, spread_accepted, spread_all, AsDistributed}
+use Rattle.meaning.specs.Distribution.{Concerned, UpperClosure, Spread, nowhere, spread, spread_accepted, spread_all, AsDistributed}
 use Rattle.meaning.proofs.Paths.{reach_trans}
 use Rattle.meaning.proofs.Messages.{adds_old, adds_new, adds_cases}
 use Rattle.meaning.proofs.Rounds.{Every, every_nth, every_update, every_map, every_to, every_both, each_sent}
@@ -39,31 +39,31 @@ told_add : (d : Spread) (s : Edges) → s ≡ d.policy → (e : Edge) (v : Vault
 told_add d s q e v ms a (b, l, p) x =
     (λ h. to (adds_cases b v.told x (subst (λ (ns : List Change). x ∈ performs ns v.told) p h)), λ k. subst (λ (ns : List Change). x ∈ performs ns v.told) (sym p) (from k))
   where
-    UpperPart : Edges → Type 0
-    UpperPart t = Concerns t v.kept e.to × Upper t e x
+    Sent : Edges → Type 0
+    Sent t = Concerned t v.kept e.to × UpperClosure t e x
 
     to : (x ∈ b) ⊎ (x ∈ v.told) → (spread (Add e) d).part v.kept x
-    to (inl h) = let k = (l.1 x).0 h in inr (subst UpperPart q (k.0, k.1))
+    to (inl h) = let k = (l.1 x).0 h in inr (subst Sent q (k.0, k.1))
     to (inr h) = inl ((a x).0 h)
 
-    due : UpperPart s → x ∈ performs (map Add b) v.told
+    due : Sent s → x ∈ performs (map Add b) v.told
     due k = ⊎_elim (adds_old b v.told x) (λ (h : x ∉ v.told). adds_new b v.told x ((l.1 x).1 (k.0, k.1, h))) (cases_Bool (has v.told x))
 
     from : (spread (Add e) d).part v.kept x → x ∈ performs (map Add b) v.told
     from (inl k) = adds_old b v.told x ((a x).1 k)
-    from (inr k) = due (subst UpperPart (sym q) k)
+    from (inr k) = due (subst Sent (sym q) k)
 
 -- an edge that is held already: all that is due was told before
 told_held : (d : Spread) (s : Edges) → s ≡ d.policy → (e : Edge) → e ∈ s → (v : Vault) → Good s v × Told d v → Told (spread (Add e) d) v
 told_held d s q e k v (g, a) x = (λ h. inl ((a x).0 h), from)
   where
-    told : Concerns s v.kept e.to × Upper s e x → x ∈ v.told
+    told : Concerned s v.kept e.to × UpperClosure s e x → x ∈ v.told
     told (c, inl p) = rw p (g.informed.complete e c.0 c.1 k c.2)
     told (c, inr p) = g.informed.complete x c.0 c.1 p.0 (reach_trans p.1 (step k c.2))
 
     from : (spread (Add e) d).part v.kept x → x ∈ v.told
     from (inl p) = (a x).1 p
-    from (inr p) = told (subst (λ (t : Edges). Concerns t v.kept e.to × Upper t e x) (sym q) p)
+    from (inr p) = told (subst (λ (t : Edges). Concerned t v.kept e.to × UpperClosure t e x) (sym q) p)
 
 apart : (e x : Edge) → x ≢ e → same e x ≡ false
 apart e x n = ⊎_elim (λ (q : same e x ≡ true). absurd (n (sym (same_equal e x q)))) (λ (q : same e x ≡ false). q) (cases_Bool (same e x))

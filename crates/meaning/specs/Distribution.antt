@@ -1,17 +1,27 @@
 -- Distributed administration as it is usually described: an addition sends the edge and all that leads to it to every place
 -- concerned, whatever was sent before, and a removal goes to everyone. Nothing waits and nothing is refused.
-use Rattle.std.specs.Prelude.{◌≡◌, ℕ, Bool, ◌≢◌, ◌⊎◌, ◌↔◌, List, [], ◌∷◌, Some, None, Ok, Err, Option}
+use Rattle.std.specs.Prelude.{◌≡◌, ℕ, Bool, true, ◌≢◌, ◌⊎◌, ◌↔◌, List, [], ◌∷◌, Some, None, Ok, Err, Option}
 use Rattle.std.specs.List.{slice_get}
 use Rattle.terms.specs.declared.edges.Edge.{Edge}
 use Rattle.terms.specs.declared.edges.Change.{Change}
 use Rattle.terms.specs.declared.edges.Change.TheVariants.{Add, Remove}
 use Rattle.calls.specs.declared.call.CallRecord.{CallRecord}
 use Rattle.model.specs.EdgeSets.{Edges, perform, ◌∈◌}
+use Rattle.meaning.specs.Paths.{Reach}
 use Rattle.meaning.specs.Precedence.{Rule}
 use Rattle.meaning.specs.Installation.{Vault, Installation, Limits, begin}
-use Rattle.meaning.specs.Sending.{Concerns, Upper}
 use Rattle.meaning.specs.Outcomes.{Answer, requested}
 use Rattle.meaning.specs.Runs.{Run}
+
+-- Who is sent what, as this procedure has it: it shares no definition with what the centre sends
+
+-- a place that keeps these privileges is concerned by a vertex with a path to one of them
+abbrev pub Concerned : Edges → (ℕ → Bool) → ℕ → Type 0
+Concerned s kept v = (p : ℕ) × (kept p ≡ true) × Reach s v p
+
+-- the upper closure of an edge: itself, and each edge with a path from its end to the beginning of that one
+abbrev pub UpperClosure : Edges → Edge → Edge → Type 0
+UpperClosure s e x = (x ≡ e) ⊎ ((x ∈ s) × Reach s x.to e.from)
 
 -- the policy, and the edges that a place has which keeps these privileges
 pub record Spread : Type 1 where
@@ -24,7 +34,7 @@ nowhere = record { policy = []; part = λ kept x. ⊥ }
 abbrev pub spread : Change → Spread → Spread
 spread (Add e) d = record {
   policy = perform (Add e) d.policy;
-  part = λ kept x. d.part kept x ⊎ (Concerns d.policy kept e.to × Upper d.policy e x);
+  part = λ kept x. d.part kept x ⊎ (Concerned d.policy kept e.to × UpperClosure d.policy e x);
 }
 spread (Remove e) d = record { policy = perform (Remove e) d.policy; part = λ kept x. d.part kept x × (x ≢ e) }
 
