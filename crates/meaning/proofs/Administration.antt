@@ -1,4 +1,5 @@
--- Tables follow the policy, nobody is held up, and precedence gains nobody anything.
+-- The books and their limits; tables follow the policy, nobody is held up, precedence gains nobody anything, and no message is
+-- sent in vain.
 use Rattle.std.proofs.Common.{◌≡◌, ℕ, suc, ◌<◌, ◌≤◌, Bool, true, false, cond, not, ◌⊎◌, List, [], ◌∷◌, ◌++◌, length, Ok, Err, sym, refl, ap, ◌∙◌, subst, inl, inr, ⊎_elim, arith}
 use Rattle.std.proofs.lemmas.Bool.{false≢true, and_from, or_left, or_right}
 use Rattle.terms.specs.declared.edges.Edge.{Edge}
@@ -32,6 +33,7 @@ use Rattle.meaning.proofs.Asking.{first_append, none_refused, Asked, asked_appen
 use Rattle.meaning.proofs.Rounds.{every_nth, every_at, every_to, each_to, each_both}
 use Rattle.meaning.proofs.Vaults.{Good, follows, adds_taken, withdrawal_taken, head_taken}
 use Rattle.meaning.proofs.Invariant.{Fine, Roomy, room_each, due_vault, fine_performs, fine_run, fine_begin, service_later}
+use Rattle.meaning.proofs.Needs.{messages_needed}
 
 pub reached_fine : {rule : Rule} {w : Installation} → Reached rule w → Fine w
 reached_fine (ls, h, r) = fine_run (fine_begin ls) r
@@ -396,6 +398,7 @@ administered rule law w f = record {
   tables = tables_follow w f;
   held_up = nobody_held_up rule w law f;
   gains = λ o h k r. gains_nothing law (fine_performs k.2 (reached_fine k.1)) (opened Open refl refl k.2) r;
+  messages = λ c a x p. messages_needed f p;
 }
 
 pub administration_holds : AdministrationHolds

@@ -9,6 +9,7 @@ pub mod Asking
 pub mod Vaults
 pub mod Invariant
 pub mod Deciding
+pub mod Needs
 pub mod Administration
 pub mod Distribution
 pub mod Examples

@@ -59,3 +59,34 @@ each_sent P Q R f [] [] h k = tt
 each_sent P Q R f [] (ms ∷ mss) h k = tt
 each_sent P Q R f (v ∷ vs) [] h k = absurd k
 each_sent P Q R f (v ∷ vs) (ms ∷ mss) h k = (f v ms h.0 k.0, each_sent P Q R f vs mss h.1 k.1)
+
+-- R holds of each vault and of the one in its place
+abbrev pub Alongside : (Vault → Vault → Type 0) → List Vault → List Vault → Type 0
+Alongside R [] ys = Unit {0}
+Alongside R (v ∷ vs) [] = Unit {0}
+Alongside R (v ∷ vs) (y ∷ ys) = R v y × Alongside R vs ys
+
+pub alongside_nth : (R : Vault → Vault → Type 0) (vs ys : List Vault) (i : ℕ) {v y : Vault} → Alongside R vs ys
+    → slice_get vs i ≡ Some v → slice_get ys i ≡ Some y → R v y
+alongside_nth R [] ys i h p q = absurd (some_none p)
+alongside_nth R (x ∷ vs) [] i h p q = absurd (some_none q)
+alongside_nth R (x ∷ vs) (z ∷ ys) zero {v} h p q = subst (R v) (some_equal q) (subst (λ (u : Vault). R u z) (some_equal p) h.0)
+alongside_nth R (x ∷ vs) (z ∷ ys) (suc i) h p q = alongside_nth R vs ys i h.1 p q
+
+pub alongside_same : (R : Vault → Vault → Type 0) → ((v : Vault) → R v v) → (vs : List Vault) → Alongside R vs vs
+alongside_same R k [] = tt
+alongside_same R k (v ∷ vs) = (k v, alongside_same R k vs)
+
+pub alongside_update : (R : Vault → Vault → Type 0) (f : Vault → Vault) → ((v : Vault) → R v v) → ((v : Vault) → R v (f v))
+    → (i : ℕ) (vs : List Vault) → Alongside R vs (update i f vs)
+alongside_update R f k l i [] = tt
+alongside_update R f k l zero (v ∷ vs) = (l v, alongside_same R k vs)
+alongside_update R f k l (suc i) (v ∷ vs) = (k v, alongside_update R f k l i vs)
+
+pub alongside_sent : (P : Vault → Type 0) (S : Vault → List Change → Type 0) (R : Vault → Vault → Type 0)
+    → ((v : Vault) (ms : List Change) → P v → S v ms → R v (send ms v))
+    → (vs : List Vault) (mss : List (List Change)) → Every P vs → Each S vs mss → Alongside R vs (send_each mss vs)
+alongside_sent P S R f [] [] h k = tt
+alongside_sent P S R f [] (ms ∷ mss) h k = tt
+alongside_sent P S R f (v ∷ vs) [] h k = absurd k
+alongside_sent P S R f (v ∷ vs) (ms ∷ mss) h k = (f v ms h.0 k.0, alongside_sent P S R f vs mss h.1 k.1)

@@ -144,14 +144,15 @@ carried_applied {told} x c = by x.waiting refl
       ordered = perform_ascending m x.table c.ordered;
     }
 
+-- a message that is performed waits still
+pub unstruck : (ms : List Change) (x : Site) → x.waiting ≡ (performed ms x).waiting
+unstruck [] x = refl
+unstruck (m ∷ ms) x = refl
+
 carried_delivered : {told : Edges} (x : Site) → Carried told x → Carried told (delivered x)
 carried_delivered {told} x c =
-    subst (λ (ws : List Change). Carried told (with_waiting (rest ws) (applied x))) (unstruck x.waiting) (by x.waiting refl)
+    subst (λ (ws : List Change). Carried told (with_waiting (rest ws) (applied x))) (unstruck x.waiting x) (by x.waiting refl)
   where
-    unstruck : (ms : List Change) → x.waiting ≡ (performed ms x).waiting
-    unstruck [] = refl
-    unstruck (m ∷ ms) = refl
-
     by : (ms : List Change) → x.waiting ≡ ms → Carried told (with_waiting (rest ms) (performed ms x))
     by [] q = subst (λ (ws : List Change). Carried told (with_waiting ws x)) q c
     by (m ∷ ms) q =

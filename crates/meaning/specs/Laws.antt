@@ -1,5 +1,5 @@
 -- What holds of every run.
-use Rattle.std.specs.Prelude.{◌≡◌, ℕ, ◌<◌, ◌≤◌, true, cond, ◌⊎◌, ◌↔◌, List, [], ◌∷◌, length, Some, None, Ok, Err, Option}
+use Rattle.std.specs.Prelude.{◌≡◌, ℕ, ◌<◌, ◌≤◌, true, cond, ◌⊎◌, ◌↔◌, List, [], ◌∷◌, ◌++◌, All, length, Some, None, Ok, Err, Option}
 use Rattle.std.specs.List.{slice_get}
 use Rattle.terms.specs.declared.edges.Edge.{Edge}
 use Rattle.terms.specs.declared.edges.Change.{Change}
@@ -151,12 +151,25 @@ pub record GainsNothing (o : Installation) (h : List CallRecord) (w : Installati
 abbrev pub Opened : Rule → Installation → Type 0
 Opened rule o = (s : Installation) × Reached rule s × Performs rule s Open (Ok 0) o
 
--- All three, for every lawful rule, any limits and every run
+-- (d) No message is sent in vain
+
+-- v is a vault before a call and y after it, when the policy is s
+pub record Needed (s : Edges) (v y : Vault) : Type 0 where
+  -- what the call makes wait behind the rest alters what the vault is told
+  pub altering : (ms : List Change) → y.site.waiting ≡ v.site.waiting ++ ms → All (λ m. ¬ Made m v.told) ms
+  -- an edge that it is newly told of leads to a user privilege kept there
+  pub leading : (e : Edge) → e ∉ v.told → e ∈ y.told → (p : ℕ) × UserPrivilege p × (y.kept p ≡ true) × Leads s e p
+
+abbrev pub MessagesNeeded : Installation → Installation → Type 0
+MessagesNeeded w x = (i : ℕ) (v y : Vault) → slice_get w.vaults i ≡ Some v → slice_get x.vaults i ≡ Some y → Needed x.policy v y
+
+-- All four, for every lawful rule, any limits and every run
 
 pub record Administered (rule : Rule) (w : Installation) : Type 0 where
   pub tables : TablesFollow w
   pub held_up : NobodyHeldUp rule w
   pub gains : (o : Installation) (h : List CallRecord) → Opened rule o → Run rule o h w → GainsNothing o h w
+  pub messages : (c : Call) (a : Answer) (x : Installation) → Performs rule w c a x → MessagesNeeded w x
 
 abbrev pub AdministrationHolds : Type 0
 AdministrationHolds = (rule : Rule) → Lawful rule → (w : Installation) → Reached rule w → Administered rule w

@@ -31,8 +31,8 @@ pub fn calls_computed()
     ensures { CallsComputed }
 {}
 
-// For every lawful rule, any limits and every run: tables follow the policy, nobody is held up, and
-// precedence gains nobody a user privilege.
+// For every lawful rule, any limits and every run: tables follow the policy, nobody is held up,
+// precedence gains nobody a user privilege, and no message is sent in vain.
 pub fn administration_holds()
     ensures { AdministrationHolds }
 {}
