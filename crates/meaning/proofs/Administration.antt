@@ -26,7 +26,7 @@ use Rattle.meaning.specs.Questions.{HasLinkRoom, in_seating, in_service, Questio
 use Rattle.meaning.specs.Outcomes.{Answer, value, requested, Planned, changed, after, Performs, accepts, refuses}
 use Rattle.meaning.specs.Runs.{recorded, Run, ends, calls, Reached}
 use Rattle.meaning.specs.Laws.{BooksHold, NumbersAnswered, LimitsHold, OrderingDecided, TablesFollow, Made, NobodyHeldUp, Entry, Plain, nothing, adding, Accepted, now, later, ByUsers, GainsNothing, Administered, AdministrationHolds}
-use Rattle.meaning.proofs.Privileges.{names_answered, edge_by_number}
+use Rattle.meaning.proofs.Privileges.{names_declaring, names_answered, edge_by_number}
 use Rattle.meaning.proofs.Ordering.{full_decides}
 use Rattle.meaning.proofs.Covering.{Sound, Covers, carry, cover_add, covers_refl}
 use Rattle.meaning.proofs.Asking.{first_append, none_refused, Asked, asked_append, asked_each, asked_cond}
@@ -71,8 +71,31 @@ answered {w = w} c n d q k (accepts mss plan y) =
     (subst (λ (d : Call). Names (after w d mss).declared (value w d) c) (sym q) (names_answered w.declared c))
 answered c n d q k (refuses mss plan x) = absurd (ok_err (sym k))
 
+-- what is declared stays declared
+names_after : {rule : Rule} {w x : Installation} {c : Call} {a : Answer} {p : ℕ} {d : Change} → Performs rule w c a x → Names w.declared p d → Names x.declared p d
+names_after {w = w} {c = c} {p = p} {d = d} (accepts mss plan y) m = by c
+  where
+    by_change : (b : Bool) (s : Edges) → Names (cond b (with_policy s (send_each mss w.vaults) w) w).declared p d
+    by_change true s = m
+    by_change false s = m
+
+    by : (c : Call) → Names (after w c mss).declared p d
+    by (Declare e) = names_declaring w.declared e m
+    by (Keep i q) = m
+    by EndNaming = m
+    by (Seat e) = by_change (alters (Add e) w.policy) (insert e w.policy)
+    by Open = m
+    by (Command u e) = by_change (alters e w.policy) (perform e w.policy)
+    by (Apply i) = m
+    by (Deliver i) = m
+names_after (refuses mss plan n) m = m
+
+names_run : {rule : Rule} {w x : Installation} {h : List CallRecord} {p : ℕ} {d : Change} → Names w.declared p d → Run rule w h x → Names x.declared p d
+names_run m ends = m
+names_run m (calls p r) = names_run (names_after p m) r
+
 pub numbers_answered : NumbersAnswered
-numbers_answered rule w x c n p = answered c n (Declare c) refl refl p
+numbers_answered rule w x y c n h p r = names_run (answered c n (Declare c) refl refl p) r
 
 pub ordering_decided : OrderingDecided
 ordering_decided rule w r p c d n q = full_decides (reached_fine r).formed c d q

@@ -42,7 +42,8 @@ BooksHold = (rule : Rule) (w : Installation) → Reached rule w → BooksKept w
 
 -- the number answered is that of the change from then on
 abbrev pub NumbersAnswered : Type 0
-NumbersAnswered = (rule : Rule) (w x : Installation) (c : Change) (n : ℕ) → Performs rule w (Declare c) (Ok n) x → Names x.declared n c
+NumbersAnswered = (rule : Rule) (w x y : Installation) (c : Change) (n : ℕ) (h : List CallRecord) → Performs rule w (Declare c) (Ok n) x → Run rule x h y
+    → Names y.declared n c
 
 -- a limit refuses only what is beyond it, and the room at the vaults is asked for only where the policy has room
 pub record LimitsExact (rule : Rule) (w : Installation) (c : Call) (x : Installation) : Type 0 where
