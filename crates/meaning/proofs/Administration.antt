@@ -174,38 +174,21 @@ alters_not (Remove e) s h = h
 -- What a refusal says of the installation and of the call: never is it a link's or a store's
 
 abbrev Says : Installation → Call → CentreFault → Type 0
-Says w c NoUser = Unit {0}
-Says w c NoEdge = Unit {0}
-Says w c Unauthorised = Unit {0}
 Says w c PolicyFull = length w.policy ≡ 512
 Says w c (StoreRoom i) = length w.policy < 512
 Says w c (LinkRoom i) = length w.policy < 512
 Says w c TooDeep = (d : Change) × (c ≡ Declare d) × (¬ Shallow w.declared 8 d)
 Says w c NamesFull = length w.declared ≡ 128
-Says w c NoVault = Unit {0}
-Says w c NoPrivilege = Unit {0}
-Says w c NothingWaiting = Unit {0}
-Says w c WrongStage = Unit {0}
 Says w c (Link i f) = ⊥
 Says w c (Store i f) = ⊥
+Says w c f = Unit {0}
 
 own : (w : Installation) (c : Call) (f : CentreFault) → Says w c f → centre_layer f ≡ Centre
-own w c NoUser h = refl
-own w c NoEdge h = refl
-own w c Unauthorised h = refl
-own w c PolicyFull h = refl
-own w c (StoreRoom i) h = refl
-own w c (LinkRoom i) h = refl
-own w c TooDeep h = refl
-own w c NamesFull h = refl
-own w c NoVault h = refl
-own w c NoPrivilege h = refl
-own w c NothingWaiting h = refl
-own w c WrongStage h = refl
 own w c (Link i f) h = absurd h
 own w c (Store i f) h = absurd h
+own w c f h = refl
 
--- the call d, of which c is the change
+-- of the call d
 module _ (w : Installation) (d : Call) (g : CentreFault) where
   says : {A R : Type 0} (f : CentreFault) → ((¬ A) → Says w d f) → (A → R → Says w d g) → ((¬ A) × (g ≡ f)) ⊎ (A × R) → Says w d g
   says f l k (inl n) = subst (Says w d) (sym n.1) (l n.0)
