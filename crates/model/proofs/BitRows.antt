@@ -51,7 +51,7 @@ bit_beyond a b j h l = grind (arith, nat_tests, bit_at_and a (bit_not w64 b) j, 
 pub place_of : (v : ℕ) → is_role v ≡ true → (v - 64 < 64) × (64 + (v - 64) ≡ v)
 place_of v r = (grind (arith, nat_tests), grind (arith, nat_tests))
 
-at_place : (w k : ℕ) → k < 64 → has_role w (64 + k) ≡ bit w k
+pub at_place : (w k : ℕ) → k < 64 → has_role w (64 + k) ≡ bit w k
 at_place w k l = let e : 64 + k - 64 ≡ k = omega arith in grind (arith, nat_tests, ap (bit w) e)
 
 -- sets of roles: none, one, two sets together

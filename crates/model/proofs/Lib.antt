@@ -6,3 +6,4 @@ pub mod Cells
 pub mod Tables
 pub mod SetLaws
 pub mod BitRows
+pub mod Rows

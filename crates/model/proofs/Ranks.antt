@@ -9,7 +9,7 @@ use Rattle.model.proofs.Members.{delete_absent}
 use Rattle.model.proofs.Ascents.{asc_tail, asc_step, asc_first, asc_absent, insert_held}
 
 -- the edges in front of one before e are before e
-front_before : (e : Edge) (d : Edge) (s : Edges) (i : ℕ) → Ascending (d ∷ s) → i < length s → before (get_or s i no_edge) e ≡ true → before d e ≡ true
+pub front_before : (e : Edge) (d : Edge) (s : Edges) (i : ℕ) → Ascending (d ∷ s) → i < length s → before (get_or s i no_edge) e ≡ true → before d e ≡ true
 front_before e d [] i h l b = absurd (omega arith)
 front_before e d (x ∷ s) zero h l b = before_trans d x e (asc_step d x s h).0 b
 front_before e d (x ∷ s) (suc i) h l b =

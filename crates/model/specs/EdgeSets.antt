@@ -65,6 +65,12 @@ pub record Table (s : Edges) : Type 0 where
 abbrev pub no_edge : Edge
 no_edge = edge 0 0
 
+-- the edge in front of place i is before e, and the one there is not
+pub record Lower (e : Edge) (s : Edges) (i : ℕ) : Type 0 where
+  pub within : i ≤ length s
+  pub front : (j : ℕ) → i ≡ suc j → before (slice_index_or s j no_edge) e ≡ true
+  pub back : i < length s → before (slice_index_or s i no_edge) e ≡ false
+
 -- a search for e ends at place i of a list: e stands there, or the neighbours are on either side of e
 abbrev pub Stands : Edge → Edges → ℕ → Type 0
 Stands e s i = (i < length s) × (same (slice_index_or s i no_edge) e ≡ true)

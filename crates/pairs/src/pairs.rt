@@ -5,7 +5,8 @@ ghost use Rattle.model.specs.EdgeSets.{Found, Absent, all_vault, ascends, insert
 ghost use Rattle.model.proofs.Tables.{table_of, few_of};
 
 use faults::store::StoreFault;
-use model::places::find;
+use model::places::{find, row};
+use model::roles::Roles;
 use std::alloc::{AllocError, Global};
 use stores::store::{LIMITS, Made, Reader, Store};
 use terms::edges::Edge;
@@ -70,6 +71,10 @@ impl Reader for Pairs {
 
     fn count(&self) -> usize {
         self.pairs.len()
+    }
+
+    fn row(&self, from: u16) -> Roles {
+        row(&self.pairs, from)
     }
 }
 
