@@ -19,9 +19,13 @@ abbrev pub edges_in : List Run → Edges
 edges_in [] = []
 edges_in (r ∷ rs) = edges_of r ++ edges_in rs
 
+-- the cell behind the last of a run
+abbrev pub end : Run → ℕ
+end r = r.first + r.count
+
 -- whether a cell is one of a run's
 abbrev pub spans : Run → ℕ → Bool
-spans r c = nat_le r.first c && nat_lt c (r.first + r.count)
+spans r c = nat_le r.first c && nat_lt c (end r)
 
 -- one cell before runs: it lengthens the first of them if it touches it
 abbrev pub joined : ℕ → List Run → List Run
@@ -35,7 +39,7 @@ runs (d ∷ s) = joined (cell d) (runs s)
 
 -- the least cell at which another run may begin, so that the two do not touch
 abbrev pub next : Run → ℕ
-next r = suc (r.first + r.count)
+next r = suc (end r)
 
 -- whether a run may come next: it begins at cell n or later, and has 1 to m cells, all of vault edges
 abbrev pub fits : ℕ → ℕ → Run → Bool

@@ -1,3 +1,4 @@
 mod Steps
 mod Since
 mod Drafts
+mod Places

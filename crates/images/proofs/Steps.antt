@@ -4,7 +4,7 @@ use Rattle.std.specs.Prelude.{⊤, Some}
 use Rattle.std.specs.Iterator.{MakesProgress, YieldsFirst, item_count}
 use Rattle.std.specs.Iterator.Runs.{YieldsInOrder}
 use Rattle.std.proofs.iter.runs.Sources.{from_front, as_is}
-use Rattle.std.specs.List.{list_all, list_any, range_with_len, sum_by}
+use Rattle.std.specs.List.{list_all, range_with_len, sum_by}
 use Rattle.std.proofs.lemmas.List.Sums.{sum_by-cons}
 use Rattle.std.proofs.lemmas.Bool.{cond-true, cases_eq, cases_Bool, eq-eqb, ne_eqb, eqb-true, and_from, and_right, or_left, both_ways}
 use Rattle.std.proofs.lemmas.Bool.Decides.{nat_tests}
@@ -32,7 +32,7 @@ vault_along o (suc n) =
     (ap (λ (c : ℕ). list_all (λ c. vault_edge (edge_at c)) (range_with_len c n)) (add-one o) ∙ vault_along (suc o) n)
 
 -- a run has the edge of a cell just when the cell is between its ends
-has_along : (o n c : ℕ) → has (along o n) (edge_at c) ≡ spans (run o n) c
+pub has_along : (o n c : ℕ) → has (along o n) (edge_at c) ≡ spans (run o n) c
 has_along o zero c = none o c
   where
     none : (o c : ℕ) → false ≡ (leb o c && ltb c (o + 0))
@@ -49,7 +49,7 @@ has_along o (suc n) c =
     later : (o c : ℕ) → (o ≡ c → ⊥) → (leb (suc o) c && ltb c (suc o + n)) ≡ (leb o c && ltb c (o + suc n))
     later o c d = grind (arith, nat_tests)
 
-has_both : (s t : Edges) (e : Edge) → has (s ++ t) e ≡ (has s e || has t e)
+pub has_both : (s t : Edges) (e : Edge) → has (s ++ t) e ≡ (has s e || has t e)
 has_both [] t e = refl
 has_both (d ∷ s) t e = ap (λ (b : Bool). same d e || b) (has_both s t e) ∙ regroup (same d e) (has s e) (has t e)
   where
@@ -97,13 +97,6 @@ cells_held bs = length_edges (taken bs)
 
 pub cells_taken : (bs : List ℕ) → sum_by (λ r. r.count) (taken bs) ≤ 512
 cells_taken bs = omega (arith, cells_held bs, (held_table bs).few)
-
--- and one of them is the edge of a cell just when one of the runs spans it
-pub has_edges : (c : ℕ) (rs : List Run) → list_any (λ r. spans r c) rs ≡ has (edges_in rs) (edge_at c)
-has_edges c [] = refl
-has_edges c (r ∷ rs) =
-    ap (λ (b : Bool). spans r c || b) (has_edges c rs) ∙ ap (λ (b : Bool). b || has (edges_in rs) (edge_at c)) (sym (has_along r.first r.count c))
-    ∙ sym (has_both (edges_of r) (edges_in rs) (edge_at c))
 
 -- each run that fits has an edge
 few_fit : (n m : ℕ) (rs : List Run) → all_fit n m rs ≡ true → length rs ≤ m

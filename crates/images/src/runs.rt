@@ -23,8 +23,7 @@ pub(crate) struct Runs<'a> {
 fn are_vault_cells(run: Run) -> bool
     ensures { result ≡ all_vault (edges_of run) }
 {
-    let first = u32::from(run.first);
-    (first..first + u32::from(run.count)).all(is_vault_cell)
+    (u32::from(run.first)..run.end()).all(is_vault_cell)
 }
 
 impl<'a> Runs<'a> {
@@ -72,7 +71,7 @@ impl Iterator for Runs<'_> {
             return None;
         }
         self.rest = rest;
-        self.least = u32::from(run.first) + u32::from(run.count) + 1;
+        self.least = run.end() + 1;
         self.room -= u32::from(run.count);
         Some(run)
     }
