@@ -13,6 +13,8 @@ mod images_run;
 #[cfg(test)]
 mod links_run;
 #[cfg(test)]
+mod readers_run;
+#[cfg(test)]
 mod sessions_run;
 #[cfg(test)]
 mod stores_run;
