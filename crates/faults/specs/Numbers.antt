@@ -17,6 +17,11 @@ use Rattle.faults.specs.declared.bank.BankFault.{BankFault}
 use Rattle.faults.specs.declared.centre.VaultPlace.{VaultPlace}
 use Rattle.faults.specs.declared.centre.CentreFault as centre
 use Rattle.faults.specs.declared.centre.CentreFault.{CentreFault}
+use Rattle.faults.specs.declared.text.Column.{Column}
+use Rattle.faults.specs.declared.text.TextFault as text
+use Rattle.faults.specs.declared.text.TextFault.{TextFault}
+use Rattle.faults.specs.declared.line.LineFault as line
+use Rattle.faults.specs.declared.line.LineFault.{LineFault}
 
 abbrev pub link_number : LinkFault → ℕ
 link_number link.TheVariants.NoVaultEdge = 2
@@ -103,3 +108,21 @@ centre_place centre.TheVariants.NothingWaiting = None
 centre_place centre.TheVariants.WrongStage = None
 centre_place (centre.TheVariants.Link v f) = Some v
 centre_place (centre.TheVariants.Store v f) = Some v
+
+abbrev pub text_number : TextFault → ℕ
+text_number (text.TheVariants.Malformed k) = 15
+text_number (text.TheVariants.OutOfRange k) = 16
+text_number (text.TheVariants.TooDeep k) = 7
+text_number (text.TheVariants.Undeclared k) = 17
+
+-- the column that a refusal is about
+abbrev pub text_place : TextFault → Column
+text_place (text.TheVariants.Malformed k) = k
+text_place (text.TheVariants.OutOfRange k) = k
+text_place (text.TheVariants.TooDeep k) = k
+text_place (text.TheVariants.Undeclared k) = k
+
+abbrev pub line_number : LineFault → ℕ
+line_number line.TheVariants.NoUser = 1
+line_number line.TheVariants.NoEdge = 2
+line_number line.TheVariants.NoRoom = 21

@@ -1,0 +1,2 @@
+mod Named
+mod Orders

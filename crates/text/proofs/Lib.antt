@@ -1,0 +1,10 @@
+pub mod Numerals
+pub mod Forwards
+pub mod Backwards
+pub mod Steps
+pub mod Stops
+pub mod Marks
+pub mod Reports
+pub mod Fronts
+pub mod Digits
+pub mod Composing

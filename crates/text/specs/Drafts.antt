@@ -1,0 +1,93 @@
+-- What the reading of a line's parts tells.
+use Rattle.std.specs.Prelude.{◌≡◌, ℕ, suc, ◌+◌, ◌<◌, List, [], ◌∷◌, ◌++◌, length, Some, None, Option}
+use Rattle.terms.specs.declared.edges.Change.{Change}
+use Rattle.terms.specs.declared.edges.Edge.{Edge}
+use Rattle.terms.specs.Graph.{edge}
+use Rattle.faults.specs.declared.text.TextFault.{TextFault}
+use Rattle.faults.specs.declared.text.TextFault.TheVariants.{Malformed}
+use Rattle.calls.specs.declared.call.Call as call
+use Rattle.calls.specs.declared.call.Call.{Call}
+use Rattle.text.specs.declared.letters.Letter.{Letter}
+use Rattle.text.specs.declared.letters.Letter.TheVariants.{User, Vault}
+use Rattle.text.specs.declared.signs.Sign.{Sign}
+use Rattle.text.specs.declared.ends.Named.{Named}
+use Rattle.text.specs.declared.ends.Ends.{Ends}
+use Rattle.text.specs.declared.token.Token.{Token}
+use Rattle.text.specs.declared.draft.Draft.{Draft}
+use Rattle.text.specs.declared.draft.Draft.TheVariants.{Declare, Keep, Seat, Open, Command, Deliver}
+use Rattle.text.specs.Spelling.{signed, told, Node, spelt, Part, mark, sign, numbered, node, spelt_parts}
+use Rattle.text.specs.Reading.{at, Need, a_byte, a_letter}
+use Rattle.text.specs.Lines.{Line}
+use Rattle.text.specs.Ends.{Missing, FirstMissing}
+use Rattle.text.specs.Tokens.{Passes, named_by}
+use Rattle.text.specs.Forms.{two_nodes}
+
+-- Parts were read, which suit the needs.
+pub record PartsRead (ns : List Need) (s r : Token) (ps : List Part) : Type 0 where
+  pub line : Line ns ps
+  pub text : s.text.now ≡ spelt_parts ps ++ r.text.now
+  pub passes : Passes ns s r
+
+-- A letter and a number; the letter of a line and a space; two nodes with a space between them.
+pub record LetterRead (l : Letter) (s r : Token) (n : ℕ) : Type 0 where
+  pub digits : List ℕ
+  pub value : n ≡ told 0 digits
+  pub read : PartsRead (a_letter l ∷ []) s r (numbered l digits ∷ [])
+
+abbrev pub KeywordRead : ℕ → Token → Token → Type 0
+KeywordRead x s r = PartsRead (a_byte x ∷ a_byte 32 ∷ []) s r (mark x ∷ mark 32 ∷ [])
+
+-- a node at column k, and what is known of it
+abbrev pub Of : List Change → Node → ℕ → Named → Type 0
+Of D t k n = (n.vertex ≡ named_by D t) × (n.column ≡ k)
+
+abbrev pub OfBoth : List Change → Node → Node → ℕ → Ends → Type 0
+OfBoth D a b k e = Of D a k e.from × Of D b (k + length (spelt a) + 1) e.to
+
+pub record NodesRead (D : List Change) (s r : Token) (e : Ends) : Type 0 where
+  pub left : Node
+  pub right : Node
+  pub both : OfBoth D left right s.column e
+  pub read : PartsRead two_nodes s r (node left ∷ mark 32 ∷ node right ∷ [])
+
+-- The parts, from column c on, that a draft is of
+abbrev pub Drafted : List Change → ℕ → List Part → Draft → Type 0
+Drafted D c ps (Declare g e) =
+    (a : Node) × (b : Node) × (ps ≡ mark 68 ∷ mark 32 ∷ sign g ∷ mark 40 ∷ node a ∷ mark 44 ∷ node b ∷ mark 41 ∷ []) × OfBoth D a b (c + 4) e
+Drafted D c ps (Keep n v) =
+    (a : Node) × (ds : List ℕ) × (ps ≡ mark 75 ∷ mark 32 ∷ node a ∷ mark 32 ∷ numbered Vault ds ∷ []) × Of D a (c + 2) n × (v ≡ told 0 ds)
+Drafted D c ps (Seat e) = (a : Node) × (b : Node) × (ps ≡ mark 83 ∷ mark 32 ∷ node a ∷ mark 32 ∷ node b ∷ []) × OfBoth D a b (c + 2) e
+Drafted D c ps Open = ps ≡ mark 79 ∷ []
+Drafted D c ps (Command u g e) =
+    (ds : List ℕ) × (a : Node) × (b : Node) × (ps ≡ numbered User ds ∷ mark 32 ∷ sign g ∷ mark 32 ∷ node a ∷ mark 32 ∷ node b ∷ [])
+    × (u ≡ told 0 ds) × OfBoth D a b (c + length ds + 4) e
+Drafted D c ps (Deliver v) = (ds : List ℕ) × (ps ≡ mark 84 ∷ mark 32 ∷ numbered Vault ds ∷ []) × (v ≡ told 0 ds)
+
+pub record DraftRead (D : List Change) (ns : List Need) (s r : Token) (d : Draft) : Type 0 where
+  pub parts : List Part
+  pub read : PartsRead ns s r parts
+  pub drafted : Drafted D s.column parts d
+
+-- A draft says a call, or misses a privilege.
+abbrev pub Vertices : Ends → Edge → Type 0
+Vertices e x = (e.from.vertex ≡ Some x.from) × (e.to.vertex ≡ Some x.to)
+
+abbrev pub Completes : Draft → Call → Type 0
+Completes (Declare g e) c = (x : Edge) × Vertices e x × (c ≡ call.TheVariants.Declare (signed g x))
+Completes (Keep n v) c = (p : ℕ) × (n.vertex ≡ Some p) × (c ≡ call.TheVariants.Keep v p)
+Completes (Seat e) c = (x : Edge) × Vertices e x × (c ≡ call.TheVariants.Seat x)
+Completes Open c = c ≡ call.TheVariants.Open
+Completes (Command u g e) c = (x : Edge) × Vertices e x × (c ≡ call.TheVariants.Command u (signed g x))
+Completes (Deliver v) c = c ≡ call.TheVariants.Deliver v
+
+abbrev pub Misses : Draft → TextFault → Type 0
+Misses (Declare g e) f = FirstMissing e.from e.to f
+Misses (Keep n v) f = Missing n f
+Misses (Seat e) f = FirstMissing e.from e.to f
+Misses Open f = ⊥
+Misses (Command u g e) f = FirstMissing e.from e.to f
+Misses (Deliver v) f = ⊥
+
+-- more comes where a line should end, or it is too long
+abbrev pub NotEnded : List ℕ → Token → TextFault → Type 0
+NotEnded s r f = (f ≡ Malformed (at r.column)) × (r.text.now ≡ [] → 128 < length s)

@@ -1,0 +1,142 @@
+ghost use Rattle.std.specs.Prelude.{◌≡◌, ◌∷◌, [], ◌≤◌, length, MatchResult};
+ghost use Rattle.text.specs.Reading.{a_byte, a_letter};
+ghost use Rattle.text.specs.Forms.{two_nodes, declare_form, keep_form, seat_form, open_form, deliver_form, command_form, form_of};
+ghost use Rattle.text.specs.Tokens.{Fails};
+ghost use Rattle.text.specs.Drafts.{LetterRead, KeywordRead, NodesRead, DraftRead, NotEnded};
+
+use crate::draft::Draft;
+use crate::ends::{Ends, Named};
+use crate::letters::Letter;
+use crate::token::{Read, Token};
+use faults::text::TextFault;
+use names::privileges::Privileges;
+
+// How deep a node may be nested; the bracket of the privilege that is declared is one of its levels.
+const DEEPEST: u8 = 8;
+
+impl<'a> Token<'a> {
+    // Reads a letter and its number.
+    fn letter(self, letter: Letter) -> Result<Read<'a, u16>, TextFault>
+        ensures { MatchResult result (λ x. LetterRead letter self.entry x.rest x.value) (λ f. Fails (a_letter letter ∷ []) self.entry f) }
+    {
+        self.byte(letter.byte())?.number(letter, self.column)
+    }
+
+    // Reads the letter that a line begins with, and the space behind it.
+    fn keyword(self, byte: u8) -> Result<Token<'a>, TextFault>
+        ensures { MatchResult result (λ r. KeywordRead byte self.entry r) (λ f. Fails (a_byte byte ∷ a_byte 32 ∷ []) self.entry f) }
+    {
+        self.byte(byte)?.byte(b' ')
+    }
+
+    // Reads two nodes with a space between them.
+    fn nodes(self, privileges: &Privileges) -> Result<Read<'a, Ends>, TextFault>
+        ensures { MatchResult result (λ x. NodesRead privileges.now self.entry x.rest x.value) (λ f. Fails two_nodes self.entry f) }
+    {
+        let from = self.node(privileges, DEEPEST)?;
+        let right = from.rest.byte(b' ')?;
+        let to = right.node(privileges, DEEPEST)?;
+        Ok(Read {
+            value: Ends {
+                from: Named {
+                    vertex: from.value,
+                    column: self.column,
+                },
+                to: Named {
+                    vertex: to.value,
+                    column: right.column,
+                },
+            },
+            rest: to.rest,
+        })
+    }
+
+    fn declare(self, privileges: &Privileges) -> Result<Read<'a, Draft>, TextFault>
+        ensures { MatchResult result (λ x. DraftRead privileges.now declare_form self.entry x.rest x.value) (λ f. Fails declare_form self.entry f) }
+    {
+        let sign = self.keyword(b'D')?.sign()?;
+        let ends = sign.rest.bracket(privileges, DEEPEST - 1)?;
+        Ok(Read {
+            value: Draft::Declare {
+                sign: sign.value,
+                ends: ends.value,
+            },
+            rest: ends.rest,
+        })
+    }
+
+    fn keep(self, privileges: &Privileges) -> Result<Read<'a, Draft>, TextFault>
+        ensures { MatchResult result (λ x. DraftRead privileges.now keep_form self.entry x.rest x.value) (λ f. Fails keep_form self.entry f) }
+    {
+        let start = self.keyword(b'K')?;
+        let node = start.node(privileges, DEEPEST)?;
+        let vault = node.rest.byte(b' ')?.letter(Letter::Vault)?;
+        Ok(Read {
+            value: Draft::Keep {
+                privilege: Named {
+                    vertex: node.value,
+                    column: start.column,
+                },
+                vault: vault.value,
+            },
+            rest: vault.rest,
+        })
+    }
+
+    fn seat(self, privileges: &Privileges) -> Result<Read<'a, Draft>, TextFault>
+        ensures { MatchResult result (λ x. DraftRead privileges.now seat_form self.entry x.rest x.value) (λ f. Fails seat_form self.entry f) }
+    {
+        let nodes = self.keyword(b'S')?.nodes(privileges)?;
+        Ok(Read {
+            value: Draft::Seat { ends: nodes.value },
+            rest: nodes.rest,
+        })
+    }
+
+    fn open(self) -> Result<Read<'a, Draft>, TextFault>
+        ensures { MatchResult result (λ x. DraftRead [] open_form self.entry x.rest x.value) (λ f. Fails open_form self.entry f) }
+    {
+        Ok(Read {
+            value: Draft::Open,
+            rest: self.byte(b'O')?,
+        })
+    }
+
+    fn deliver(self) -> Result<Read<'a, Draft>, TextFault>
+        ensures { MatchResult result (λ x. DraftRead [] deliver_form self.entry x.rest x.value) (λ f. Fails deliver_form self.entry f) }
+    {
+        let vault = self.keyword(b'T')?.letter(Letter::Vault)?;
+        Ok(Read {
+            value: Draft::Deliver { vault: vault.value },
+            rest: vault.rest,
+        })
+    }
+
+    // Reads a command: a user, a sign and two nodes.
+    pub(crate) fn command(self, privileges: &Privileges) -> Result<Read<'a, Draft>, TextFault>
+        ensures { MatchResult result (λ x. DraftRead privileges.now command_form self.entry x.rest x.value) (λ f. Fails command_form self.entry f) }
+    {
+        let user = self.letter(Letter::User)?;
+        let sign = user.rest.byte(b' ')?.sign()?;
+        let nodes = sign.rest.byte(b' ')?.nodes(privileges)?;
+        Ok(Read {
+            value: Draft::Command {
+                user: user.value,
+                sign: sign.value,
+                ends: nodes.value,
+            },
+            rest: nodes.rest,
+        })
+    }
+
+    // Nothing may come any more, and nothing may have been cut off.
+    pub(crate) fn end(self, line: &[u8]) -> Result<(), TextFault>
+        ensures { MatchResult result (λ _. (self.entry.text.now ≡ []) × (length line.now ≤ 128)) (λ f. NotEnded line.now self.entry f) }
+    {
+        if self.text.is_empty() && line.len() <= 128 {
+            Ok(())
+        } else {
+            Err(self.wrong())
+        }
+    }
+}

@@ -1,0 +1,11 @@
+#![tactic(auto)]
+
+pub mod draft;
+pub mod ends;
+mod forms;
+pub mod letters;
+mod nodes;
+mod numbers;
+pub mod signs;
+pub mod token;
+mod tokens;
