@@ -8,3 +8,5 @@ pub mod Reports
 pub mod Fronts
 pub mod Digits
 pub mod Composing
+pub mod Parts
+pub mod Wholes

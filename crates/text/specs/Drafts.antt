@@ -1,5 +1,5 @@
 -- What the reading of a line's parts tells.
-use Rattle.std.specs.Prelude.{◌≡◌, ℕ, suc, ◌+◌, ◌<◌, List, [], ◌∷◌, ◌++◌, length, Some, None, Option}
+use Rattle.std.specs.Prelude.{◌≡◌, ℕ, suc, ◌+◌, ◌<◌, List, [], ◌∷◌, ◌++◌, length, ◌≤◌, ◌⊎◌, Some, None, Ok, Err, Option, Result}
 use Rattle.terms.specs.declared.edges.Change.{Change}
 use Rattle.terms.specs.declared.edges.Edge.{Edge}
 use Rattle.terms.specs.Graph.{edge}
@@ -91,3 +91,8 @@ Misses (Deliver v) f = ⊥
 -- more comes where a line should end, or it is too long
 abbrev pub NotEnded : List ℕ → Token → TextFault → Type 0
 NotEnded s r f = (f ≡ Malformed (at r.column)) × (r.text.now ≡ [] → 128 < length s)
+
+-- what comes of a draft behind which r is left
+abbrev pub Completed : List ℕ → Token → Draft → Result Call TextFault → Type 0
+Completed s r d (Ok c) = (r.text.now ≡ []) × (length s ≤ 128) × Completes d c
+Completed s r d (Err f) = NotEnded s r f ⊎ ((r.text.now ≡ []) × (length s ≤ 128) × Misses d f)

@@ -16,13 +16,18 @@ const DEEPEST: u8 = 8;
 
 impl<'a> Token<'a> {
     // Reads a letter and its number.
+    #[tactic(auto, using(crate::proofs::Parts::letter_read, crate::proofs::Parts::letter_fails))]
     fn letter(self, letter: Letter) -> Result<Read<'a, u16>, TextFault>
         ensures { MatchResult result (λ x. LetterRead letter self.entry x.rest x.value) (λ f. Fails (a_letter letter ∷ []) self.entry f) }
     {
-        self.byte(letter.byte())?.number(letter, self.column)
+        match self.next() {
+            Some(next) if next.value == letter.byte() => next.rest.number(letter, self.column),
+            _ => Err(self.wrong()),
+        }
     }
 
     // Reads the letter that a line begins with, and the space behind it.
+    #[tactic(auto, using(crate::proofs::Parts::keyword_read, crate::proofs::Parts::keyword_fails, crate::proofs::Parts::keyword_none))]
     fn keyword(self, byte: u8) -> Result<Token<'a>, TextFault>
         ensures { MatchResult result (λ r. KeywordRead byte self.entry r) (λ f. Fails (a_byte byte ∷ a_byte 32 ∷ []) self.entry f) }
     {
@@ -30,6 +35,7 @@ impl<'a> Token<'a> {
     }
 
     // Reads two nodes with a space between them.
+    #[tactic(auto, using(crate::proofs::Parts::nodes_read, crate::proofs::Parts::nodes_fail_before, crate::proofs::Parts::nodes_fail_between, crate::proofs::Parts::nodes_fail_after))]
     fn nodes(self, privileges: &Privileges) -> Result<Read<'a, Ends>, TextFault>
         ensures { MatchResult result (λ x. NodesRead privileges.now self.entry x.rest x.value) (λ f. Fails two_nodes self.entry f) }
     {
@@ -51,7 +57,8 @@ impl<'a> Token<'a> {
         })
     }
 
-    fn declare(self, privileges: &Privileges) -> Result<Read<'a, Draft>, TextFault>
+    #[tactic(auto, using(crate::proofs::Parts::declare_read))]
+    pub(crate) fn declare(self, privileges: &Privileges) -> Result<Read<'a, Draft>, TextFault>
         ensures { MatchResult result (λ x. DraftRead privileges.now declare_form self.entry x.rest x.value) (λ f. Fails declare_form self.entry f) }
     {
         let sign = self.keyword(b'D')?.sign()?;
@@ -65,7 +72,8 @@ impl<'a> Token<'a> {
         })
     }
 
-    fn keep(self, privileges: &Privileges) -> Result<Read<'a, Draft>, TextFault>
+    #[tactic(auto, using(crate::proofs::Parts::keep_read))]
+    pub(crate) fn keep(self, privileges: &Privileges) -> Result<Read<'a, Draft>, TextFault>
         ensures { MatchResult result (λ x. DraftRead privileges.now keep_form self.entry x.rest x.value) (λ f. Fails keep_form self.entry f) }
     {
         let start = self.keyword(b'K')?;
@@ -83,7 +91,8 @@ impl<'a> Token<'a> {
         })
     }
 
-    fn seat(self, privileges: &Privileges) -> Result<Read<'a, Draft>, TextFault>
+    #[tactic(auto, using(crate::proofs::Parts::seat_read))]
+    pub(crate) fn seat(self, privileges: &Privileges) -> Result<Read<'a, Draft>, TextFault>
         ensures { MatchResult result (λ x. DraftRead privileges.now seat_form self.entry x.rest x.value) (λ f. Fails seat_form self.entry f) }
     {
         let nodes = self.keyword(b'S')?.nodes(privileges)?;
@@ -93,16 +102,18 @@ impl<'a> Token<'a> {
         })
     }
 
-    fn open(self) -> Result<Read<'a, Draft>, TextFault>
+    pub(crate) fn open(self) -> Result<Read<'a, Draft>, TextFault>
         ensures { MatchResult result (λ x. DraftRead [] open_form self.entry x.rest x.value) (λ f. Fails open_form self.entry f) }
     {
+        let rest = self.byte(b'O')?;
         Ok(Read {
             value: Draft::Open,
-            rest: self.byte(b'O')?,
+            rest,
         })
     }
 
-    fn deliver(self) -> Result<Read<'a, Draft>, TextFault>
+    #[tactic(auto, using(crate::proofs::Parts::deliver_read))]
+    pub(crate) fn deliver(self) -> Result<Read<'a, Draft>, TextFault>
         ensures { MatchResult result (λ x. DraftRead [] deliver_form self.entry x.rest x.value) (λ f. Fails deliver_form self.entry f) }
     {
         let vault = self.keyword(b'T')?.letter(Letter::Vault)?;

@@ -6,6 +6,7 @@ mod forms;
 pub mod letters;
 mod nodes;
 mod numbers;
+pub mod reader;
 pub mod signs;
 pub mod token;
 mod tokens;
