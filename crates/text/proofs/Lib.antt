@@ -10,3 +10,5 @@ pub mod Digits
 pub mod Composing
 pub mod Parts
 pub mod Wholes
+pub mod Texts
+pub mod Rounds

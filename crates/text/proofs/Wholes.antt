@@ -31,7 +31,7 @@ use Rattle.text.proofs.Stops.{some_same}
 
 -- The forms
 
-by_first : (x : ℕ) (P : List Need → Type 0) → P (form_by 68) → P (form_by 75) → P (form_by 83) → P (form_by 79) → P (form_by 84) → P (form_by 0) → P (form_by x)
+pub by_first : (x : ℕ) (P : List Need → Type 0) → P (form_by 68) → P (form_by 75) → P (form_by 83) → P (form_by 79) → P (form_by 84) → P (form_by 0) → P (form_by x)
 by_first x P d k s o t c = by (eqb x 68) (eqb x 75) (eqb x 83) (eqb x 79) (eqb x 84)
   where
     by : (b1 b2 b3 b4 b5 : Bool)

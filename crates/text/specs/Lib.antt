@@ -6,3 +6,5 @@ pub mod Tokens
 pub mod Forms
 pub mod Ends
 pub mod Drafts
+pub mod Writing
+pub mod Laws

@@ -3,6 +3,7 @@
 pub mod draft;
 pub mod ends;
 mod forms;
+pub mod laws;
 pub mod letters;
 mod nodes;
 mod numbers;

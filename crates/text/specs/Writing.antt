@@ -1,0 +1,50 @@
+-- The text of a call: its vertices by their nodes.
+use Rattle.std.specs.Prelude.{◌≡◌, ℕ, zero, suc, ◌-◌, ◌<◌, if◌then◌else◌, List, [], ◌∷◌, Some, None, Option, nat_lt}
+use Rattle.std.specs.Fmt.{decimal}
+use Rattle.terms.specs.declared.edges.Edge.{Edge}
+use Rattle.terms.specs.declared.edges.Change.{Change}
+use Rattle.terms.specs.declared.edges.Change.TheVariants.{Add, Remove}
+use Rattle.terms.specs.Graph.{edge_of}
+use Rattle.calls.specs.declared.call.Call.{Call}
+use Rattle.calls.specs.declared.call.Call.TheVariants.{Declare, Keep, EndNaming, Seat, Open, Command, Apply, Deliver}
+use Rattle.meaning.specs.Privileges.{named}
+use Rattle.text.specs.declared.letters.Letter.TheVariants.{User, Role, Privilege, Vault}
+use Rattle.text.specs.declared.signs.Sign.{Sign}
+use Rattle.text.specs.declared.signs.Sign.TheVariants.{Plus, Minus}
+use Rattle.text.specs.Spelling.{Node, leaf, pair, Part, mark, sign, numbered, node, spelt_parts}
+
+abbrev pub sign_in : Change → Sign
+sign_in (Add e) = Plus
+sign_in (Remove e) = Minus
+
+-- a user, a role or a user privilege
+abbrev pub leaf_of : ℕ → Node
+leaf_of v =
+    if nat_lt v 64 then leaf User (decimal v)
+    else if nat_lt v 128 then leaf Role (decimal (v - 64))
+    else leaf Privilege (decimal (v - 128))
+
+-- the node of a vertex, with at most d brackets in one another
+abbrev pub node_of : List Change → ℕ → ℕ → Node
+node_of D zero v = leaf_of v
+node_of D (suc d) v =
+    elim (named D v) [ None ↦ leaf_of v | Some c ↦ pair (sign_in c) (node_of D d (edge_of c).from) (node_of D d (edge_of c).to) ]
+
+abbrev pub vertex : List Change → ℕ → Part
+vertex D v = node (node_of D 8 v)
+
+-- Ending the naming and applying have no line of their own.
+abbrev pub parts_of : List Change → Call → List Part
+parts_of D (Declare c) =
+    mark 68 ∷ mark 32 ∷ sign (sign_in c) ∷ mark 40 ∷ vertex D (edge_of c).from ∷ mark 44 ∷ vertex D (edge_of c).to ∷ mark 41 ∷ []
+parts_of D (Keep i p) = mark 75 ∷ mark 32 ∷ vertex D p ∷ mark 32 ∷ numbered Vault (decimal i) ∷ []
+parts_of D EndNaming = []
+parts_of D (Seat e) = mark 83 ∷ mark 32 ∷ vertex D e.from ∷ mark 32 ∷ vertex D e.to ∷ []
+parts_of D Open = mark 79 ∷ []
+parts_of D (Command u c) =
+    numbered User (decimal u) ∷ mark 32 ∷ sign (sign_in c) ∷ mark 32 ∷ vertex D (edge_of c).from ∷ mark 32 ∷ vertex D (edge_of c).to ∷ []
+parts_of D (Apply i) = []
+parts_of D (Deliver i) = mark 84 ∷ mark 32 ∷ numbered Vault (decimal i) ∷ []
+
+abbrev pub text_of : List Change → Call → List ℕ
+text_of D c = spelt_parts (parts_of D c)
