@@ -12,3 +12,5 @@ pub mod Parts
 pub mod Wholes
 pub mod Texts
 pub mod Rounds
+pub mod Uniques
+pub mod Sayings

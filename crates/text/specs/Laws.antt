@@ -1,8 +1,28 @@
 -- The theorems about lines.
-use Rattle.std.specs.Prelude.{ℕ, List}
-use Rattle.text.specs.Forms.{form_of}
+use Rattle.std.specs.Prelude.{◌≡◌, ℕ, List, MatchResult, Result}
+use Rattle.terms.specs.declared.edges.Change.{Change}
+use Rattle.faults.specs.declared.text.TextFault.{TextFault}
+use Rattle.calls.specs.declared.call.Call.{Call}
+use Rattle.text.specs.Reading.{Need}
+use Rattle.text.specs.Forms.{form_of, Refused, Said}
 use Rattle.text.specs.Columns.{Columns}
+use Rattle.text.specs.Writing.{text_of}
 
 -- of any line, read by the form that any other calls for
 abbrev pub ColumnsStand : Type 0
 ColumnsStand = (t s : List ℕ) → Columns (form_of t) s
+
+-- what a reader promises of its answer
+abbrev pub Answers : List Change → List Need → List ℕ → Result Call TextFault → Type 0
+Answers D ns s o = MatchResult o (λ c. Said D ns s c) (λ f. Refused D ns s f)
+
+-- there is one answer
+abbrev pub AnswersOnce : Type 0
+AnswersOnce = (D : List Change) (t s : List ℕ) (o p : Result Call TextFault) → Answers D (form_of t) s o → Answers D (form_of t) s p → o ≡ p
+
+-- and what is accepted is the text of the call
+abbrev pub WasWritten : Type 0
+WasWritten = (D : List Change) (t s : List ℕ) (c : Call) → Said D (form_of t) s c → s ≡ text_of D c
+
+abbrev pub ReadingStands : Type 0
+ReadingStands = AnswersOnce × WasWritten
