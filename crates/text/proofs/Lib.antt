@@ -14,3 +14,5 @@ pub mod Texts
 pub mod Rounds
 pub mod Uniques
 pub mod Sayings
+pub mod Fine
+pub mod Commands

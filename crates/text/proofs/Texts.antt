@@ -29,7 +29,7 @@ use Rattle.text.specs.Writing.{sign_in, leaf_of, node_of}
 
 -- Numbers
 
-own : IsNumeralModel (λ ds. all_digits ds ≡ true) (told 0)
+pub own : IsNumeralModel (λ ds. all_digits ds ≡ true) (told 0)
 own = numerals_by_fold _ (search rules) told (search rules)
 
 -- a numeral is the text of its number
@@ -75,7 +75,7 @@ found_named D c v h = by (declared D c) refl h
         let back : v - 256 ≡ place_of D c = omega arith in
         cond-true _ _ _ (le-leb 256 v (omega arith)) ∙ ap (slice_get D) back ∙ placed D e
 
-unnamed : (D : List Change) (v : ℕ) → v < 256 → named D v ≡ None
+pub unnamed : (D : List Change) (v : ℕ) → v < 256 → named D v ≡ None
 unnamed D v l = cond-false _ _ _ (lt-leb 256 v l)
 
 -- Nodes
@@ -89,7 +89,7 @@ leaf_is Privilege n i h =
     (omega arith, cond-false _ _ _ (le-ltb (128 + n) 64 (omega arith)) ∙ cond-false _ _ _ (le-ltb (128 + n) 128 (omega arith)) ∙ ap (λ (k : ℕ). leaf Privilege (decimal k)) (omega arith))
 leaf_is Vault n i h = absurd (false≢true i)
 
-low_node : (D : List Change) (d v : ℕ) → v < 256 → node_of D d v ≡ leaf_of v
+pub low_node : (D : List Change) (d v : ℕ) → v < 256 → node_of D d v ≡ leaf_of v
 low_node D zero v l = refl
 low_node D (suc d) v l =
     ap (λ (o : Option Change). elim o [ None ↦ leaf_of v | Some c ↦ pair (sign_in c) (node_of D d (edge_of c).from) (node_of D d (edge_of c).to) ]) (unnamed D v l)

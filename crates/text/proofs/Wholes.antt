@@ -104,7 +104,7 @@ inside D g None b v h = absurd (none-some v h)
 inside D g (Some x) None v h = absurd (none-some v h)
 inside D g (Some x) (Some y) v h = ((x, refl), (y, refl))
 
-known : (D : List Change) (t : Node) (c v : ℕ) → named_by D t ≡ Some v → node_undeclared D c t ≡ []
+pub known : (D : List Change) (t : Node) (c v : ℕ) → named_by D t ≡ Some v → node_undeclared D c t ≡ []
 known D (leaf l ds) c v h = refl
 known D (pair g a b) c v h =
     let (p, q) = inside D g (named_by D a) (named_by D b) v h in
