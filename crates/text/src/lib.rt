@@ -7,6 +7,7 @@ pub mod laws;
 pub mod letters;
 mod nodes;
 mod numbers;
+mod pen;
 pub mod reader;
 pub mod signs;
 pub mod token;

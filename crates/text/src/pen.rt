@@ -1,0 +1,40 @@
+ghost use Rattle.std.specs.Prelude.{◌≡◌, ◌<◌, ◌∷◌, [], ◌++◌, length};
+
+use std::marker::Model;
+
+// The bytes of a line that is being written, at most 128. It means the list of them.
+#[derive(Drop)]
+pub(crate) struct Pen {
+    bytes: [u8; 128],
+    length: usize,
+}
+
+impl Model for Pen {
+    ghost use Rattle.std.specs.Prelude.{List, ℕ, take, ◌≤◌};
+
+    ghost Value = { List ℕ };
+
+    ghost view = { λ p. take p.length p.bytes };
+
+    ghost invariant = { λ p. p.length ≤ 128 };
+}
+
+impl Pen {
+    pub(crate) fn new() -> Pen
+        ensures { result ≡ [] }
+    {
+        Pen {
+            bytes: [0u8; 128],
+            length: 0,
+        }
+    }
+
+    // Writes a byte behind the others.
+    pub(crate) fn push(&mut self, byte: u8)
+        requires { length self.old < 128 }
+        ensures { self.new ≡ self.old ++ (byte ∷ []) }
+    {
+        self.bytes[self.length] = byte;
+        self.length += 1;
+    }
+}
