@@ -1,6 +1,6 @@
 ghost use Rattle.std.specs.Prelude.{◌≡◌, ℕ, ◌+◌, [], length, IfOk};
 ghost use Rattle.meaning.specs.Privileges.{named, is_proper, is_shallow};
-ghost use Rattle.names.specs.Naming.{found, declare_answer, declared_with};
+ghost use Rattle.names.specs.Naming.{Orderly, found, declare_answer, declared_with};
 
 use faults::centre::CentreFault;
 use std::alloc::{AllocError, Global};
@@ -67,10 +67,12 @@ impl Privileges {
         Some(256 + place as u16)
     }
 
-    // Whether a pair is an edge, and any administrative privilege in it declared.
+    // Whether a pair is an edge, and any administrative privilege in it declared. It says besides how
+    // all that is declared stands in order.
     #[tactic(auto, using(crate::proofs::Named::edge_proper))]
     pub fn has_edge(&self, edge: Edge) -> bool
-        ensures { result ≡ is_proper self.now edge }
+        ensures value { result ≡ is_proper self.now edge }
+        ensures order { Orderly self.now }
     {
         edge.is_edge() && usize::from(edge.to) < 256 + self.changes.len()
     }

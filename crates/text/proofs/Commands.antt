@@ -12,11 +12,11 @@ use Rattle.meaning.proofs.Privileges.{names_named}
 use Rattle.names.specs.Naming.{Orderly}
 use Rattle.text.specs.declared.letters.Letter.TheVariants.{User}
 use Rattle.text.specs.declared.signs.Sign.{Sign}
-use Rattle.text.specs.Spelling.{told, signed, Node, spelt, Part, mark, sign, numbered, node, spelt_part, spelt_parts}
+use Rattle.text.specs.Spelling.{sign_in, told, signed, Node, spelt, Part, mark, sign, numbered, node, spelt_part, spelt_parts}
 use Rattle.text.specs.Reading.{asked}
 use Rattle.text.specs.Lines.{for_byte, for_sign, for_letter, for_node, Line, no_more, before, number_refusals, node_refusals, refusals}
 use Rattle.text.specs.Forms.{command_form, node_undeclared, undeclared, NamedBoth, Whole, Accepted, Says, commands, Said}
-use Rattle.text.specs.Writing.{sign_in, node_of, parts_of, text_of}
+use Rattle.text.specs.Writing.{node_of, parts_of, text_of}
 use Rattle.text.proofs.Wholes.{known}
 use Rattle.text.proofs.Fine.{decimal_numeral, decimal_told, decimal_short, no_number, Fine, Level, low, high, first_low, signed_whole, fine_low, fine_node}
 use Rattle.text.proofs.Texts.{low_node}
@@ -61,7 +61,7 @@ module _ (D : List Change) (o : Orderly D) (u : ℕ) (c : Change) (user : u < 64
   line : Line command_form (parts_of D (Command u c))
   line =
       before (for_letter (decimal_numeral u (omega arith))) (before for_byte (before for_sign (before for_byte
-        (before (for_node fine_left.form) (before for_byte (before (for_node fine_right.form) no_more))))))
+      (before (for_node fine_left.form) (before for_byte (before (for_node fine_right.form) no_more))))))
 
   -- nothing to refuse in three things is nothing in all
   none : (a b d : List TextFault) → a ≡ [] → b ≡ [] → d ≡ [] → a ++ (b ++ (d ++ [])) ≡ []
@@ -74,8 +74,13 @@ module _ (D : List Change) (o : Orderly D) (u : ℕ) (c : Change) (user : u < 64
   short =
       let d = decimal_short u (omega arith) in
       let r = fine_right.short in
-      omega (arith, short_left, length-append (spelt right) [], length-append (spelt left) (32 ∷ (spelt right ++ [])),
-        length-append digits (32 ∷ spelt_parts (sign (sign_in c) ∷ mark 32 ∷ node left ∷ mark 32 ∷ node right ∷ [])))
+      omega (
+        arith,
+        short_left,
+        length-append (spelt right) [],
+        length-append (spelt left) (32 ∷ (spelt right ++ [])),
+        length-append digits (32 ∷ spelt_parts (sign (sign_in c) ∷ mark 32 ∷ node left ∷ mark 32 ∷ node right ∷ [])),
+      )
 
   missing_none : (a b : List ℕ) → a ≡ [] → b ≡ [] → a ++ (b ++ []) ≡ []
   missing_none a b p q = ap (λ (x : List ℕ). x ++ (b ++ [])) p ∙ ap (λ (x : List ℕ). x ++ []) q
@@ -99,5 +104,10 @@ module _ (D : List Change) (o : Orderly D) (u : ℕ) (c : Change) (user : u < 64
   written_short =
       let d = decimal_short u (omega arith) in
       let r = fine_right.short in
-      omega (arith, short_left, length-append (spelt right) [], length-append (spelt left) (32 ∷ (spelt right ++ [])),
-        length-append digits (32 ∷ spelt_parts (sign (sign_in c) ∷ mark 32 ∷ node left ∷ mark 32 ∷ node right ∷ [])))
+      omega (
+        arith,
+        short_left,
+        length-append (spelt right) [],
+        length-append (spelt left) (32 ∷ (spelt right ++ [])),
+        length-append digits (32 ∷ spelt_parts (sign (sign_in c) ∷ mark 32 ∷ node left ∷ mark 32 ∷ node right ∷ [])),
+      )

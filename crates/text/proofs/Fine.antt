@@ -15,12 +15,12 @@ use Rattle.names.specs.Naming.{Orderly, found}
 use Rattle.text.specs.declared.letters.Letter.{Letter}
 use Rattle.text.specs.declared.letters.Letter.TheVariants.{User, Role, Privilege, Vault}
 use Rattle.text.specs.declared.signs.Sign.{Sign}
-use Rattle.text.specs.Spelling.{most, first_vertex, is_digit, all_digits, told, is_numeral, signed, Node, leaf, pair, spelt}
+use Rattle.text.specs.Spelling.{sign_in, most, first_vertex, is_digit, all_digits, told, is_numeral, signed, Node, leaf, pair, spelt}
 use Rattle.text.specs.Reading.{at, asked, in_range}
 use Rattle.text.specs.Lines.{is_node_letter, well_formed, number_refusals, node_refusals}
 use Rattle.text.specs.Ends.{joined}
 use Rattle.text.specs.Tokens.{named_by}
-use Rattle.text.specs.Writing.{sign_in, leaf_of, node_of}
+use Rattle.text.specs.Writing.{leaf_of, node_of}
 use Rattle.text.proofs.Texts.{own, unnamed, low_node}
 
 -- Numbers
@@ -170,7 +170,7 @@ fine_node D o (suc k) v (high c h j d le) =
     let left = fine_node D o k (edge_of c).from (low from) in
     let right = fine_node D o k (edge_of c).to (inner_level D k c j p d le) in
     let short : length (spelt (node_of D k (edge_of c).from)) ≤ 4 =
-        subst (λ (t : Node). length (spelt t) ≤ 4) (sym (low_node D k (edge_of c).from from)) (let s = (fine_low D 0 (edge_of c).from from).short in omega arith) in
+    subst (λ (t : Node). length (spelt t) ≤ 4) (sym (low_node D k (edge_of c).from from)) (let s = (fine_low D 0 (edge_of c).from from).short in omega arith) in
     subst (Fine D (suc k) v)
     (sym (ap (λ (x : Option Change). elim x [ None ↦ leaf_of v | Some c ↦ pair (sign_in c) (node_of D k (edge_of c).from) (node_of D k (edge_of c).to) ]) h))
     (fine_pair D k v c (node_of D k (edge_of c).from) (node_of D k (edge_of c).to) (named_found D o v c h) left right short)

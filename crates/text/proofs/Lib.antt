@@ -16,3 +16,4 @@ pub mod Uniques
 pub mod Sayings
 pub mod Fine
 pub mod Commands
+pub mod Pens

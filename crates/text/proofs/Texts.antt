@@ -20,12 +20,12 @@ use Rattle.text.specs.declared.letters.Letter.{Letter}
 use Rattle.text.specs.declared.letters.Letter.TheVariants.{User, Role, Privilege, Vault}
 use Rattle.text.specs.declared.signs.Sign.{Sign}
 use Rattle.text.specs.declared.signs.Sign.TheVariants.{Plus, Minus}
-use Rattle.text.specs.Spelling.{most, first_vertex, is_digit, all_digits, told, is_numeral, signed, Node, leaf, pair, spelt, Part, mark, sign, numbered, node}
+use Rattle.text.specs.Spelling.{sign_in, most, first_vertex, is_digit, all_digits, told, is_numeral, signed, Node, leaf, pair, spelt, Part, mark, sign, numbered, node}
 use Rattle.text.specs.Reading.{at, asked, in_range}
 use Rattle.text.specs.Lines.{is_node_letter, well_formed, number_refusals, node_refusals}
 use Rattle.text.specs.Ends.{joined}
 use Rattle.text.specs.Tokens.{named_by}
-use Rattle.text.specs.Writing.{sign_in, leaf_of, node_of}
+use Rattle.text.specs.Writing.{leaf_of, node_of}
 
 -- Numbers
 

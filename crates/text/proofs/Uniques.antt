@@ -162,7 +162,7 @@ parts_once (before {n = n} {p = p} {ns = ns} {ps = ps} f l) qs k h e =
 clean_judged : (ns : List Need) (s : List ℕ) (ps : List Part) → plain ns ≡ true → Whole ns s ps → judged ns s ≡ None
 clean_judged ns s ps h w =
     let read : reading asked ns 0 (take 128 s) ≡ None =
-        ap (reading asked ns 0) (take_all 128 s w.short ∙ w.text) ∙ line_at asked w.line h 0 ∙ ap (λ (fs : List TextFault). first_of fs None) w.clean in
+    ap (reading asked ns 0) (take_all 128 s w.short ∙ w.text) ∙ line_at asked w.line h 0 ∙ ap (λ (fs : List TextFault). first_of fs None) w.clean in
     ap (λ (o : Option TextFault). elim o [ Some f ↦ Some f | None ↦ too_long s ]) read ∙ cond-true _ _ _ (le-leb (length s) 128 w.short)
 
 pub whole_once : (ns : List Need) (s : List ℕ) (ps qs : List Part) → plain ns ≡ true → Whole ns s ps → Whole ns s qs → ps ≡ qs

@@ -8,3 +8,4 @@ pub mod Ends
 pub mod Drafts
 pub mod Writing
 pub mod Laws
+pub mod Adding

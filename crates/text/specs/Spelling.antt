@@ -41,6 +41,10 @@ abbrev pub sign_byte : Sign → ℕ
 sign_byte Plus = 43
 sign_byte Minus = 45
 
+abbrev pub sign_in : Change → Sign
+sign_in (Add e) = Plus
+sign_in (Remove e) = Minus
+
 abbrev pub signed : Sign → Edge → Change
 signed Plus e = Add e
 signed Minus e = Remove e

@@ -1,21 +1,16 @@
 -- The text of a call: its vertices by their nodes.
-use Rattle.std.specs.Prelude.{◌≡◌, ℕ, zero, suc, ◌-◌, ◌<◌, if◌then◌else◌, List, [], ◌∷◌, Some, None, Option, nat_lt}
+use Rattle.std.specs.Prelude.{◌≡◌, ℕ, zero, suc, ◌-◌, ◌<◌, not, ◌++◌, length, drop, Ok, Err, Result, if◌then◌else◌, List, [], ◌∷◌, Some, None, Option, nat_lt}
 use Rattle.std.specs.Fmt.{decimal}
 use Rattle.terms.specs.declared.edges.Edge.{Edge}
 use Rattle.terms.specs.declared.edges.Change.{Change}
-use Rattle.terms.specs.declared.edges.Change.TheVariants.{Add, Remove}
-use Rattle.terms.specs.Graph.{edge_of}
+use Rattle.terms.specs.Graph.{edge_of, is_user}
+use Rattle.faults.specs.declared.line.LineFault.{LineFault}
+use Rattle.faults.specs.declared.line.LineFault.TheVariants.{NoUser, NoEdge, NoRoom}
 use Rattle.calls.specs.declared.call.Call.{Call}
 use Rattle.calls.specs.declared.call.Call.TheVariants.{Declare, Keep, EndNaming, Seat, Open, Command, Apply, Deliver}
-use Rattle.meaning.specs.Privileges.{named}
+use Rattle.meaning.specs.Privileges.{named, is_proper}
 use Rattle.text.specs.declared.letters.Letter.TheVariants.{User, Role, Privilege, Vault}
-use Rattle.text.specs.declared.signs.Sign.{Sign}
-use Rattle.text.specs.declared.signs.Sign.TheVariants.{Plus, Minus}
-use Rattle.text.specs.Spelling.{Node, leaf, pair, Part, mark, sign, numbered, node, spelt_parts}
-
-abbrev pub sign_in : Change → Sign
-sign_in (Add e) = Plus
-sign_in (Remove e) = Minus
+use Rattle.text.specs.Spelling.{sign_in, Node, leaf, pair, Part, mark, sign, numbered, node, spelt_parts}
 
 -- a user, a role or a user privilege
 abbrev pub leaf_of : ℕ → Node
@@ -48,3 +43,17 @@ parts_of D (Deliver i) = mark 84 ∷ mark 32 ∷ numbered Vault (decimal i) ∷ 
 
 abbrev pub text_of : List Change → Call → List ℕ
 text_of D c = spelt_parts (parts_of D c)
+
+-- The writer of commands asks for a user, an edge that has no undeclared privilege in it, and room for any line.
+abbrev pub write_answer : List Change → ℕ → Change → ℕ → Option LineFault
+write_answer D u c room =
+    if not (is_user u) then Some NoUser
+    else if not (is_proper D (edge_of c)) then Some NoEdge
+    else if nat_lt room 128 then Some NoRoom
+    else None
+
+-- It writes the line at the start and tells how long it is, or alters nothing.
+abbrev pub Wrote : List Change → ℕ → Change → List ℕ → List ℕ → Result ℕ LineFault → Type 0
+Wrote D u c before after (Ok n) =
+    (write_answer D u c (length before) ≡ None) × (n ≡ length (text_of D (Command u c))) × (after ≡ text_of D (Command u c) ++ drop n before)
+Wrote D u c before after (Err f) = (write_answer D u c (length before) ≡ Some f) × (after ≡ before)

@@ -1,4 +1,5 @@
-ghost use Rattle.std.specs.Prelude.{◌≡◌, ◌<◌, ◌∷◌, [], ◌++◌, length};
+ghost use Rattle.std.specs.Prelude.{◌≡◌, ◌∷◌, []};
+ghost use Rattle.text.specs.Adding.{Adds};
 
 use std::marker::Model;
 
@@ -29,12 +30,13 @@ impl Pen {
         }
     }
 
-    // Writes a byte behind the others.
+    // Writes a byte behind the others, where there is room.
     pub(crate) fn push(&mut self, byte: u8)
-        requires { length self.old < 128 }
-        ensures { self.new ≡ self.old ++ (byte ∷ []) }
+        ensures { Adds self.old (byte ∷ []) self.new }
     {
-        self.bytes[self.length] = byte;
-        self.length += 1;
+        if self.length < 128 {
+            self.bytes[self.length] = byte;
+            self.length += 1;
+        }
     }
 }

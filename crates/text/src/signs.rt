@@ -1,5 +1,5 @@
 ghost use Rattle.std.specs.Prelude.{◌≡◌};
-ghost use Rattle.text.specs.Spelling.{sign_of, sign_byte, signed};
+ghost use Rattle.text.specs.Spelling.{sign_of, sign_byte, sign_in, signed};
 
 use terms::edges::{Change, Edge};
 
@@ -18,6 +18,16 @@ impl Sign {
             b'+' => Some(Sign::Plus),
             b'-' => Some(Sign::Minus),
             _ => None,
+        }
+    }
+
+    // The sign of a change.
+    pub fn in_change(change: Change) -> Sign
+        ensures { result ≡ sign_in change }
+    {
+        match change {
+            Change::Add(_) => Sign::Plus,
+            Change::Remove(_) => Sign::Minus,
         }
     }
 
