@@ -1,8 +1,19 @@
 -- Writing, byte by byte.
-use Rattle.std.proofs.Common.{◌≡◌, ℕ, ◌+◌, ◌/◌, ◌%◌, ◌^◌, ◌≤◌, ◌<◌, List, [], ◌∷◌, ◌++◌, length, sym, refl, ap, ◌∙◌, subst, arith, append_assoc, length-append}
+use Rattle.std.proofs.Common.{◌≡◌, ℕ, ◌+◌, ◌/◌, ◌%◌, ◌^◌, ◌≤◌, ◌<◌, true, false, not, None, List, [], ◌∷◌, ◌++◌, length, sym, refl, ap, ◌∙◌, subst, arith, append_assoc, length-append}
 use Rattle.std.specs.Fmt.{decimal}
 use Rattle.std.proofs.lemmas.Fmt.{decimal_step, decimal_by_steps}
+use Rattle.std.proofs.lemmas.List.{append-nil}
+use Rattle.std.proofs.lemmas.Bool.{ltb-true, cond-false, le-ltb}
+use Rattle.terms.specs.declared.edges.Change.{Change}
+use Rattle.terms.specs.Graph.{edge_of, is_user}
+use Rattle.calls.specs.declared.call.Call.TheVariants.{Command}
+use Rattle.meaning.specs.Privileges.{is_proper}
+use Rattle.meaning.proofs.Privileges.{proper_decides}
+use Rattle.names.specs.Naming.{Orderly}
+use Rattle.text.specs.Spelling.{sign_byte, sign_in, spelt}
+use Rattle.text.specs.Writing.{node_of, text_of, write_answer}
 use Rattle.text.specs.Adding.{Adds}
+use Rattle.text.proofs.Commands.{written_short}
 
 -- the digits of a number: one, or one more behind those of a tenth of it
 pub one_digit : (n : ℕ) → n < 10 → decimal n ≡ (48 + n % 10) ∷ []
@@ -35,3 +46,29 @@ adds_bracket a b c d e f g x s t p1 p2 p3 p4 p5 p6 =
     adds_then a (x ∷ []) b (40 ∷ (s ++ (44 ∷ (t ++ (41 ∷ []))))) g p1
     (adds_then b (40 ∷ []) c (s ++ (44 ∷ (t ++ (41 ∷ [])))) g p2
     (adds_then c s d (44 ∷ (t ++ (41 ∷ []))) g p3 (adds_then d (44 ∷ []) e (t ++ (41 ∷ [])) g p4 (adds_then e t f (41 ∷ []) g p5 p6))))
+
+-- a command, part by part
+pub adds_command : (D : List Change) (u : ℕ) (c : Change) (a1 a2 a3 a4 a5 a6 a7 a8 : List ℕ) → Adds a1 (117 ∷ decimal u) a2 → Adds a2 (32 ∷ []) a3 → Adds a3 (sign_byte (sign_in c) ∷ []) a4
+    → Adds a4 (32 ∷ []) a5 → Adds a5 (spelt (node_of D 8 (edge_of c).from)) a6 → Adds a6 (32 ∷ []) a7 → Adds a7 (spelt (node_of D 8 (edge_of c).to)) a8
+    → Adds a1 (text_of D (Command u c)) a8
+adds_command D u c a1 a2 a3 a4 a5 a6 a7 a8 p1 p2 p3 p4 p5 p6 p7 =
+    let left : List ℕ = spelt (node_of D 8 (edge_of c).from) in
+    let right : List ℕ = spelt (node_of D 8 (edge_of c).to) in
+    let g : ℕ = sign_byte (sign_in c) in
+    let last : Adds a7 (right ++ []) a8 = subst (λ (t : List ℕ). Adds a7 t a8) (sym (append-nil right)) p7 in
+    let to : Adds a6 (32 ∷ (right ++ [])) a8 = adds_then a6 (32 ∷ []) a7 (right ++ []) a8 p6 last in
+    let from : Adds a5 (left ++ (32 ∷ (right ++ []))) a8 = adds_then a5 left a6 (32 ∷ (right ++ [])) a8 p5 to in
+    let gap : Adds a4 (32 ∷ (left ++ (32 ∷ (right ++ [])))) a8 = adds_then a4 (32 ∷ []) a5 (left ++ (32 ∷ (right ++ []))) a8 p4 from in
+    let signed : Adds a3 (g ∷ 32 ∷ (left ++ (32 ∷ (right ++ [])))) a8 = adds_then a3 (g ∷ []) a4 (32 ∷ (left ++ (32 ∷ (right ++ [])))) a8 p3 gap in
+    let spaced : Adds a2 (32 ∷ g ∷ 32 ∷ (left ++ (32 ∷ (right ++ [])))) a8 = adds_then a2 (32 ∷ []) a3 (g ∷ 32 ∷ (left ++ (32 ∷ (right ++ [])))) a8 p2 signed in
+    adds_then a1 (117 ∷ decimal u) a2 (32 ∷ g ∷ 32 ∷ (left ++ (32 ∷ (right ++ [])))) a8 p1 spaced
+
+-- what stands in an empty pen then
+pub stands_alone : (D : List Change) → Orderly D → (u : ℕ) (c : Change) → is_user u ≡ true → is_proper D (edge_of c) ≡ true → (a b : List ℕ) → a ≡ [] → Adds a (text_of D (Command u c)) b → b ≡ text_of D (Command u c)
+stands_alone D o u c h e a b q p =
+    let short = written_short D o u c (ltb-true u 64 h) ((proper_decides D (edge_of c)).0 e) in
+    p (omega (arith, ap length q)) ∙ ap (λ (t : List ℕ). t ++ text_of D (Command u c)) q
+
+-- no question is answered no
+pub may_write : (D : List Change) (u : ℕ) (c : Change) (room : ℕ) → is_user u ≡ true → is_proper D (edge_of c) ≡ true → 128 ≤ room → write_answer D u c room ≡ None
+may_write D u c room h e r = cond-false _ _ _ (ap not h) ∙ cond-false _ _ _ (ap not e) ∙ cond-false _ _ _ (le-ltb room 128 r)

@@ -12,4 +12,4 @@ pub mod reader;
 pub mod signs;
 pub mod token;
 mod tokens;
-mod writer;
+pub mod writer;

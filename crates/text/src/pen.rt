@@ -1,4 +1,4 @@
-ghost use Rattle.std.specs.Prelude.{◌≡◌, ◌∷◌, []};
+ghost use Rattle.std.specs.Prelude.{◌≡◌, ◌≤◌, ◌∷◌, ◌++◌, [], length, drop};
 ghost use Rattle.text.specs.Adding.{Adds};
 
 use std::marker::Model;
@@ -38,5 +38,15 @@ impl Pen {
             self.bytes[self.length] = byte;
             self.length += 1;
         }
+    }
+
+    // Puts the bytes at the start of `out`, and tells how many they are.
+    pub(crate) fn copy_to(&self, out: &mut [u8]) -> usize
+        requires { 128 ≤ length out.old }
+        ensures long { result ≡ length self.now }
+        ensures copied { out.new ≡ self.now ++ drop result out.old }
+    {
+        out[..self.length].copy_from_slice(&self.bytes[..self.length]);
+        self.length
     }
 }

@@ -2,12 +2,22 @@ ghost use Rattle.std.specs.Prelude.{◌∷◌};
 ghost use Rattle.std.specs.Fmt.{decimal};
 ghost use Rattle.text.specs.Spelling.{letter_byte, spelt};
 ghost use Rattle.text.specs.Adding.{Adds};
-ghost use Rattle.text.specs.Writing.{leaf_of, node_of};
+ghost use Rattle.text.specs.Writing.{leaf_of, node_of, text_of, Wrote};
+ghost use Rattle.calls.specs.declared.call.Call.TheVariants.{Command as Commanding};
 
 use crate::letters::Letter;
 use crate::pen::Pen;
 use crate::signs::Sign;
+use faults::line::LineFault;
 use names::privileges::Privileges;
+use terms::edges::Change;
+use terms::kinds::Kind;
+
+// How deep the node of a declared privilege can be nested.
+const DEEPEST: u8 = 8;
+
+// The room that any line fits in.
+const LONGEST: usize = 128;
 
 impl Pen {
     // Writes a number: its digits, the highest first.
@@ -64,4 +74,43 @@ impl Pen {
             None => self.vertex(vertex),
         }
     }
+
+    // Writes a command: the user, the sign and the two nodes of its edge.
+    #[tactic(auto, using(crate::proofs::Pens::adds_command))]
+    fn command(&mut self, privileges: &Privileges, user: u16, change: Change)
+        ensures { Adds self.old (text_of privileges.now (Commanding user change)) self.new }
+    {
+        self.leaf(Letter::User, user);
+        self.push(b' ');
+        self.push(Sign::in_change(change).byte());
+        self.push(b' ');
+        self.node(privileges, DEEPEST, change.edge().from);
+        self.push(b' ');
+        self.node(privileges, DEEPEST, change.edge().to);
+    }
+}
+
+// Writes the line of a command at the start of `out` and tells how long it is; no other byte is
+// altered. Refused with 1 unless the user is one, then with 2 unless the change is about an edge that
+// has no undeclared privilege in it, then with 21 unless there is room for the longest line.
+pub fn write_command(
+    privileges: &Privileges,
+    user: u16,
+    change: Change,
+    out: &mut [u8],
+) -> Result<usize, LineFault>
+    ensures { Wrote privileges.now user change out.old out.new result }
+{
+    if !Kind::User.has(user) {
+        return Err(LineFault::NoUser);
+    }
+    if !privileges.has_edge(change.edge()) {
+        return Err(LineFault::NoEdge);
+    }
+    if out.len() < LONGEST {
+        return Err(LineFault::NoRoom);
+    }
+    let mut pen = Pen::new();
+    pen.command(privileges, user, change);
+    Ok(pen.copy_to(out))
 }
