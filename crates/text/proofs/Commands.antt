@@ -1,14 +1,18 @@
 -- The text of a command that may be given is read back to it.
-use Rattle.std.proofs.Common.{◌≡◌, ℕ, zero, suc, ◌+◌, ◌*◌, ◌≤◌, ◌<◌, Bool, true, false, List, [], ◌∷◌, ◌++◌, length, Some, None, Option, sym, refl, ap, ◌∙◌, subst, arith, length-append}
+use Rattle.std.proofs.Common.{◌≡◌, ℕ, zero, suc, ◌+◌, ◌*◌, ◌≤◌, ◌<◌, Bool, true, false, List, [], ◌∷◌, ◌++◌, length, Some, None, Ok, Option, if◌then◌else◌, ltb, not, sym, refl, ap, ◌∙◌, subst, arith, length-append}
 use Rattle.std.specs.Fmt.{decimal}
 use Rattle.terms.specs.declared.edges.Edge.{Edge}
 use Rattle.terms.specs.declared.edges.Change.{Change}
-use Rattle.terms.specs.Graph.{edge, edge_of}
+use Rattle.terms.specs.Graph.{edge, edge_of, is_user}
 use Rattle.faults.specs.declared.text.TextFault.{TextFault}
 use Rattle.calls.specs.declared.call.Call.{Call}
 use Rattle.calls.specs.declared.call.Call.TheVariants.{Command}
 use Rattle.meaning.specs.Privileges.{Names, Proper, assigns, inherits, permits, administers, Shallow}
-use Rattle.meaning.proofs.Privileges.{names_named}
+use Rattle.meaning.specs.Privileges.{is_proper}
+use Rattle.faults.specs.declared.line.LineFault.TheVariants.{NoUser, NoEdge, NoRoom}
+use Rattle.std.proofs.lemmas.Bool.{ltb-true}
+use Rattle.std.proofs.lemmas.Option.{none-some}
+use Rattle.meaning.proofs.Privileges.{names_named, proper_decides}
 use Rattle.names.specs.Naming.{Orderly}
 use Rattle.text.specs.declared.letters.Letter.TheVariants.{User}
 use Rattle.text.specs.declared.signs.Sign.{Sign}
@@ -16,8 +20,10 @@ use Rattle.text.specs.Spelling.{sign_in, told, signed, Node, spelt, Part, mark, 
 use Rattle.text.specs.Reading.{asked}
 use Rattle.text.specs.Lines.{for_byte, for_sign, for_letter, for_node, Line, no_more, before, number_refusals, node_refusals, refusals}
 use Rattle.text.specs.Forms.{command_form, node_undeclared, undeclared, NamedBoth, Whole, Accepted, Says, commands, Said}
-use Rattle.text.specs.Writing.{node_of, parts_of, text_of}
+use Rattle.text.specs.Writing.{node_of, parts_of, text_of, write_answer}
+use Rattle.text.specs.Laws.{ReadsBack}
 use Rattle.text.proofs.Wholes.{known}
+use Rattle.text.proofs.Sayings.{answers_once}
 use Rattle.text.proofs.Fine.{decimal_numeral, decimal_told, decimal_short, no_number, Fine, Level, low, high, first_low, signed_whole, fine_low, fine_node}
 use Rattle.text.proofs.Texts.{low_node}
 
@@ -70,17 +76,12 @@ module _ (D : List Change) (o : Orderly D) (u : ℕ) (c : Change) (user : u < 64
   clean : refusals asked command_form 0 (parts_of D (Command u c)) ≡ []
   clean = none _ _ _ (no_number 0 User digits (let e = numeral in omega arith)) (fine_left.clean _) (fine_right.clean _)
 
-  short : length (text_of D (Command u c)) ≤ 128
-  short =
+  pub written_short : length (text_of D (Command u c)) ≤ 80
+  written_short =
       let d = decimal_short u (omega arith) in
       let r = fine_right.short in
-      omega (
-        arith,
-        short_left,
-        length-append (spelt right) [],
-        length-append (spelt left) (32 ∷ (spelt right ++ [])),
-        length-append digits (32 ∷ spelt_parts (sign (sign_in c) ∷ mark 32 ∷ node left ∷ mark 32 ∷ node right ∷ [])),
-      )
+      omega (arith, short_left, length-append (spelt right) [], length-append (spelt left) (32 ∷ (spelt right ++ [])),
+        length-append digits (32 ∷ spelt_parts (sign (sign_in c) ∷ mark 32 ∷ node left ∷ mark 32 ∷ node right ∷ [])))
 
   missing_none : (a b : List ℕ) → a ≡ [] → b ≡ [] → a ++ (b ++ []) ≡ []
   missing_none a b p q = ap (λ (x : List ℕ). x ++ (b ++ [])) p ∙ ap (λ (x : List ℕ). x ++ []) q
@@ -89,7 +90,7 @@ module _ (D : List Change) (o : Orderly D) (u : ℕ) (c : Change) (user : u < 64
   declared = missing_none _ _ (known D left _ (edge_of c).from fine_left.names) (known D right _ (edge_of c).to fine_right.names)
 
   pub accepted : Accepted D command_form (text_of D (Command u c)) (parts_of D (Command u c))
-  accepted = record { whole = record { line = line; text = refl; clean = clean; short = short }; declared = declared }
+  accepted = record { whole = record { line = line; text = refl; clean = clean; short = let w = written_short in omega arith }; declared = declared }
 
   says : Says D (parts_of D (Command u c)) (Command u c)
   says =
@@ -100,14 +101,20 @@ module _ (D : List Change) (o : Orderly D) (u : ℕ) (c : Change) (user : u < 64
   pub written_said : Said D command_form (text_of D (Command u c)) (Command u c)
   written_said = (parts_of D (Command u c), accepted, says)
 
-  pub written_short : length (text_of D (Command u c)) ≤ 80
-  written_short =
-      let d = decimal_short u (omega arith) in
-      let r = fine_right.short in
-      omega (
-        arith,
-        short_left,
-        length-append (spelt right) [],
-        length-append (spelt left) (32 ∷ (spelt right ++ [])),
-        length-append digits (32 ∷ spelt_parts (sign (sign_in c) ∷ mark 32 ∷ node left ∷ mark 32 ∷ node right ∷ [])),
-      )
+-- so it is read back to the command
+may_be_written : (D : List Change) (u : ℕ) (c : Change) → write_answer D u c 128 ≡ None → (is_user u ≡ true) × (is_proper D (edge_of c) ≡ true)
+may_be_written D u c h = by (is_user u) refl (is_proper D (edge_of c)) refl h
+  where
+    by : (a : Bool) → is_user u ≡ a → (b : Bool) → is_proper D (edge_of c) ≡ b
+        → (if not a then Some NoUser else if not b then Some NoEdge else if ltb 128 128 then Some NoRoom else None) ≡ None → (is_user u ≡ true) × (is_proper D (edge_of c) ≡ true)
+    by true p true q h = (p, q)
+    by false p b q h = absurd (none-some NoUser (sym h))
+    by true p false q h = absurd (none-some NoEdge (sym h))
+
+pub reads_back : ReadsBack
+reads_back D o u c h =
+    let (user, edge) = may_be_written D u c h in
+    let u64 = ltb-true u 64 user in
+    let proper = (proper_decides D (edge_of c)).0 edge in
+    let short = written_short D o u c u64 proper in
+    (omega arith, λ r a. answers_once D command_form (text_of D (Command u c)) r (Ok (Command u c)) refl a (written_said D o u c u64 proper))

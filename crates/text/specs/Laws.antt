@@ -1,12 +1,14 @@
 -- The theorems about lines.
-use Rattle.std.specs.Prelude.{◌≡◌, ℕ, List, MatchResult, Result}
+use Rattle.std.specs.Prelude.{◌≡◌, ℕ, ◌≤◌, List, length, None, Ok, MatchResult, Result}
 use Rattle.terms.specs.declared.edges.Change.{Change}
 use Rattle.faults.specs.declared.text.TextFault.{TextFault}
 use Rattle.calls.specs.declared.call.Call.{Call}
+use Rattle.calls.specs.declared.call.Call.TheVariants.{Command}
+use Rattle.names.specs.Naming.{Orderly}
 use Rattle.text.specs.Reading.{Need}
-use Rattle.text.specs.Forms.{form_of, Refused, Said}
+use Rattle.text.specs.Forms.{command_form, form_of, Refused, Said}
 use Rattle.text.specs.Columns.{Columns}
-use Rattle.text.specs.Writing.{text_of}
+use Rattle.text.specs.Writing.{text_of, write_answer}
 
 -- of any line, read by the form that any other calls for
 abbrev pub ColumnsStand : Type 0
@@ -26,3 +28,9 @@ WasWritten = (D : List Change) (t s : List ℕ) (c : Call) → Said D (form_of t
 
 abbrev pub ReadingStands : Type 0
 ReadingStands = AnswersOnce × WasWritten
+
+-- A command that may be written fits a line, and whoever reads its text gets it back.
+abbrev pub ReadsBack : Type 0
+ReadsBack = (D : List Change) → Orderly D → (u : ℕ) (c : Change) → write_answer D u c 128 ≡ None
+    → (length (text_of D (Command u c)) ≤ 128)
+    × ((o : Result Call TextFault) → Answers D command_form (text_of D (Command u c)) o → o ≡ Ok (Command u c))

@@ -1,5 +1,5 @@
 // Each function stands for the theorem in its contract.
-ghost use Rattle.text.specs.Laws.{ColumnsStand, ReadingStands};
+ghost use Rattle.text.specs.Laws.{ColumnsStand, ReadingStands, ReadsBack};
 
 // Where a line is refused, in terms of the lines that are well formed.
 pub fn columns_stand()
@@ -9,4 +9,9 @@ pub fn columns_stand()
 // A line has one answer, and one that is accepted is the text of its call.
 pub fn reading_stands()
     ensures { ReadingStands }
+{}
+
+// A command that is written is read back.
+pub fn reads_back()
+    ensures { ReadsBack }
 {}
