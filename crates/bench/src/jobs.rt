@@ -20,9 +20,10 @@ impl Tally {
     }
 }
 
-// Something that asks many questions.
+// Something that asks many questions. Each turn begins with another user, as the compiler would else do
+// the same work once for all turns.
 pub trait Job {
-    fn run(&self) -> Tally;
+    fn run(&self, turn: u16) -> Tally;
 }
 
 // The first role of a user in both tables.
@@ -31,7 +32,7 @@ fn role_of(user: u16) -> u16 {
 }
 
 // For every user privilege, the question of each user in his first role. Each is asked by a session
-// of its own, as the compiler moves the search out of a loop that asks for one user again and again.
+// of its own, as the compiler would move the search out of a loop that asks for one user again.
 #[derive(Drop)]
 pub struct Questions<'a, R> {
     pub table: &'a R,
@@ -43,10 +44,11 @@ fn ask<R: Reader>(table: &R, user: u16, privilege: u16) -> Result<bool, SessionF
 }
 
 impl<R: Reader> Job for Questions<'_, R> {
-    fn run(&self) -> Tally {
+    fn run(&self, turn: u16) -> Tally {
         let mut tally = Tally { asked: 0, yes: 0 };
         for privilege in 128..256u16 {
-            for user in 0..64u16 {
+            for step in 0..64u16 {
+                let user = (step + turn % 64) % 64;
                 tally = tally.with(ask(self.table, user, privilege) == Ok(true));
             }
         }
@@ -61,9 +63,10 @@ pub struct Closures<'a, R> {
 }
 
 impl<R: Reader> Job for Closures<'_, R> {
-    fn run(&self) -> Tally {
+    fn run(&self, turn: u16) -> Tally {
         let mut tally = Tally { asked: 0, yes: 0 };
-        for vertex in 0..128u16 {
+        for step in 0..128u16 {
+            let vertex = (step + turn % 128) % 128;
             tally = tally.with(reached(self.table, vertex).has(127));
         }
         tally

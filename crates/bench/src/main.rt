@@ -24,14 +24,14 @@ enum Shown {
 }
 
 // How often a job is done where times are shown.
-const ROUNDS: u32 = 20;
+const ROUNDS: u16 = 20;
 
 // Does a job over and over, and shows the nanoseconds that each of its questions took.
 fn show_times<J: Job>(rt: &HostRuntime, name: &str, job: &J) -> io::Result<()> {
     let start = Instant::now(rt)?;
     let mut asked = 0u32;
-    for _ in 0..ROUNDS {
-        asked = asked.saturating_add(job.run().asked);
+    for turn in 0..ROUNDS {
+        asked = asked.saturating_add(job.run(turn).asked);
     }
     let each = start.elapsed(rt)?.as_nanos() / u128::from(asked.max(1));
     println!(rt; "    {name}: {each} ns")
@@ -39,7 +39,7 @@ fn show_times<J: Job>(rt: &HostRuntime, name: &str, job: &J) -> io::Result<()> {
 
 // Does a job once, and shows how many questions it asked and how many were answered yes.
 fn show_answers<J: Job>(rt: &HostRuntime, name: &str, job: &J) -> io::Result<()> {
-    let tally = job.run();
+    let tally = job.run(0);
     let (asked, yes) = (tally.asked, tally.yes);
     println!(rt; "    {name}: {asked} asked, {yes} yes")
 }

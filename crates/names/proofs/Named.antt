@@ -1,12 +1,12 @@
 -- Declared privileges by their numbers.
-use Rattle.std.proofs.Common.{◌≡◌, ℕ, zero, suc, ◌+◌, ◌-◌, ◌≤◌, ◌<◌, Bool, true, false, cond, not, ◌&&◌, ◌||◌, if◌then◌else◌, ltb, leb, List, [], ◌∷◌, ◌++◌, length, Some, None, Option, sym, refl, ap, ◌∙◌, subst, arith}
+use Rattle.std.proofs.Common.{◌≡◌, ℕ, suc, ◌+◌, ◌≤◌, Bool, true, false, cond, not, ◌&&◌, ◌||◌, if◌then◌else◌, ltb, List, [], ◌∷◌, length, Some, None, Option, sym, refl, ap, ◌∙◌, arith}
 use Rattle.std.specs.List.{position_or_len}
 use Rattle.std.proofs.lemmas.Option.{none-some}
 use Rattle.std.proofs.lemmas.Bool.Decides.{nat_tests}
 use Rattle.terms.specs.declared.edges.Edge.{Edge}
 use Rattle.terms.specs.declared.edges.Change.{Change}
-use Rattle.terms.specs.Graph.{edge_of, is_edge, is_user, is_role, is_user_privilege, is_admin_privilege}
-use Rattle.meaning.specs.Privileges.{alike, declared, place_of, named, is_name, is_proper}
+use Rattle.terms.specs.Graph.{is_edge}
+use Rattle.meaning.specs.Privileges.{alike, declared, place_of, is_proper}
 use Rattle.names.specs.Naming.{found}
 
 pub edge_proper : (D : List Change) (e : Edge) → length D ≤ 128 → (is_edge e && ltb e.to (256 + length D)) ≡ is_proper D e

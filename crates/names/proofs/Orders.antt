@@ -1,19 +1,15 @@
 -- One privilege more keeps the order.
-use Rattle.std.proofs.Common.{◌≡◌, ℕ, zero, suc, ◌+◌, ◌-◌, ◌≤◌, ◌<◌, Bool, true, false, cond, not, ◌&&◌, ◌||◌, ◌⊎◌, inl, inr, if◌then◌else◌, ltb, leb, List, [], ◌∷◌, ◌++◌, length, take, Some, None, Ok, Err, Option, Result, sym, refl, ap, ◌∙◌, subst, arith, length-append}
+use Rattle.std.proofs.Common.{◌≡◌, ℕ, zero, suc, ◌+◌, ◌≤◌, ◌<◌, Bool, true, false, cond, not, ◌||◌, ◌⊎◌, inl, inr, if◌then◌else◌, ltb, List, [], ◌∷◌, ◌++◌, length, take, Some, None, Ok, sym, refl, ap, ◌∙◌, subst, arith, length-append}
 use Rattle.std.specs.List.{slice_get}
-use Rattle.std.proofs.lemmas.Bool.{false≢true, cond-true, cond-false, ltb-true, lt-ltb, cases_lt}
-use Rattle.std.proofs.lemmas.Bool.Decides.{nat_tests}
+use Rattle.std.proofs.lemmas.Bool.{false≢true, cond-true, cond-false, lt-ltb, cases_lt}
 use Rattle.std.proofs.lemmas.List.{take-append-le}
 use Rattle.std.proofs.lemmas.Option.{none-some}
 use Rattle.std.proofs.Math.Seq.{take-append_seam}
-use Rattle.terms.specs.declared.edges.Edge.{Edge}
 use Rattle.terms.specs.declared.edges.Change.{Change}
 use Rattle.terms.specs.Graph.{edge_of}
-use Rattle.faults.specs.declared.centre.CentreFault.{CentreFault}
-use Rattle.faults.specs.declared.centre.CentreFault.TheVariants.{NoEdge, TooDeep, NamesFull}
-use Rattle.meaning.specs.Privileges.{Names, Proper, Shallow, alike, declared, place_of, declaring, is_proper, is_shallow}
+use Rattle.meaning.specs.Privileges.{Proper, Shallow, alike, declared, place_of, declaring, is_proper, is_shallow}
 use Rattle.meaning.proofs.Privileges.{some_equal, some_none, alike_refl, shallow_declaring, proper_decides, shallow_decides}
-use Rattle.names.specs.Naming.{Orderly, found, declare_answer, declared_with}
+use Rattle.names.specs.Naming.{Orderly, found, declare_answer}
 
 -- a change that is not found is not declared, and comes last when it is
 not_declared : (D : List Change) (c : Change) → found D c ≡ None → declared D c ≡ false

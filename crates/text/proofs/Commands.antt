@@ -1,13 +1,12 @@
 -- The text of a command that may be given is read back to it.
-use Rattle.std.proofs.Common.{◌≡◌, ℕ, zero, suc, ◌+◌, ◌*◌, ◌≤◌, ◌<◌, Bool, true, false, List, [], ◌∷◌, ◌++◌, length, Some, None, Ok, Option, if◌then◌else◌, ltb, not, sym, refl, ap, ◌∙◌, subst, arith, length-append}
+use Rattle.std.proofs.Common.{◌≡◌, ℕ, ◌≤◌, ◌<◌, Bool, true, false, List, [], ◌∷◌, ◌++◌, length, Some, None, Ok, if◌then◌else◌, ltb, not, sym, refl, ap, ◌∙◌, subst, arith, length-append}
 use Rattle.std.specs.Fmt.{decimal}
 use Rattle.terms.specs.declared.edges.Edge.{Edge}
 use Rattle.terms.specs.declared.edges.Change.{Change}
 use Rattle.terms.specs.Graph.{edge, edge_of, is_user}
 use Rattle.faults.specs.declared.text.TextFault.{TextFault}
-use Rattle.calls.specs.declared.call.Call.{Call}
 use Rattle.calls.specs.declared.call.Call.TheVariants.{Command}
-use Rattle.meaning.specs.Privileges.{Names, Proper, assigns, inherits, permits, administers, Shallow}
+use Rattle.meaning.specs.Privileges.{Proper, assigns, inherits, permits, administers}
 use Rattle.meaning.specs.Privileges.{is_proper}
 use Rattle.faults.specs.declared.line.LineFault.TheVariants.{NoUser, NoEdge, NoRoom}
 use Rattle.std.proofs.lemmas.Bool.{ltb-true}
@@ -15,11 +14,10 @@ use Rattle.std.proofs.lemmas.Option.{none-some}
 use Rattle.meaning.proofs.Privileges.{names_named, proper_decides}
 use Rattle.names.specs.Naming.{Orderly}
 use Rattle.text.specs.declared.letters.Letter.TheVariants.{User}
-use Rattle.text.specs.declared.signs.Sign.{Sign}
-use Rattle.text.specs.Spelling.{sign_in, told, signed, Node, spelt, Part, mark, sign, numbered, node, spelt_part, spelt_parts}
+use Rattle.text.specs.Spelling.{sign_in, told, signed, Node, spelt, mark, sign, node, spelt_parts}
 use Rattle.text.specs.Reading.{asked}
-use Rattle.text.specs.Lines.{for_byte, for_sign, for_letter, for_node, Line, no_more, before, number_refusals, node_refusals, refusals}
-use Rattle.text.specs.Forms.{command_form, node_undeclared, undeclared, NamedBoth, Whole, Accepted, Says, commands, Said}
+use Rattle.text.specs.Lines.{for_byte, for_sign, for_letter, for_node, Line, no_more, before, refusals}
+use Rattle.text.specs.Forms.{command_form, undeclared, NamedBoth, Accepted, Says, commands, Said}
 use Rattle.text.specs.Writing.{node_of, parts_of, text_of, write_answer}
 use Rattle.text.specs.Laws.{ReadsBack}
 use Rattle.text.proofs.Wholes.{known}
@@ -80,8 +78,13 @@ module _ (D : List Change) (o : Orderly D) (u : ℕ) (c : Change) (user : u < 64
   written_short =
       let d = decimal_short u (omega arith) in
       let r = fine_right.short in
-      omega (arith, short_left, length-append (spelt right) [], length-append (spelt left) (32 ∷ (spelt right ++ [])),
-        length-append digits (32 ∷ spelt_parts (sign (sign_in c) ∷ mark 32 ∷ node left ∷ mark 32 ∷ node right ∷ [])))
+      omega (
+        arith,
+        short_left,
+        length-append (spelt right) [],
+        length-append (spelt left) (32 ∷ (spelt right ++ [])),
+        length-append digits (32 ∷ spelt_parts (sign (sign_in c) ∷ mark 32 ∷ node left ∷ mark 32 ∷ node right ∷ [])),
+      )
 
   missing_none : (a b : List ℕ) → a ≡ [] → b ≡ [] → a ++ (b ++ []) ≡ []
   missing_none a b p q = ap (λ (x : List ℕ). x ++ (b ++ [])) p ∙ ap (λ (x : List ℕ). x ++ []) q

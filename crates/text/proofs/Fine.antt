@@ -1,27 +1,26 @@
 -- The text of a command is accepted.
-use Rattle.std.proofs.Common.{◌≡◌, ℕ, zero, suc, ◌+◌, ◌-◌, ◌*◌, ◌^◌, ◌≤◌, ◌<◌, ◌⊎◌, inl, inr, Bool, true, false, cond, ◌&&◌, ◌||◌, if◌then◌else◌, eqb, ltb, leb, List, [], ◌∷◌, ◌++◌, length, take, Some, None, Option, get_or, sym, refl, ap, ◌∙◌, subst, ⊎_elim, arith, length-append}
+use Rattle.std.proofs.Common.{◌≡◌, ℕ, zero, suc, ◌+◌, ◌-◌, ◌*◌, ◌≤◌, ◌<◌, ◌⊎◌, inl, inr, Bool, true, false, ◌&&◌, ◌||◌, if◌then◌else◌, eqb, List, [], ◌∷◌, ◌++◌, length, take, Some, None, Option, get_or, sym, refl, ap, ◌∙◌, subst, arith, length-append}
 use Rattle.std.specs.Fmt.{decimal}
 use Rattle.std.specs.List.{slice_get}
 use Rattle.std.proofs.lemmas.Fmt.{digits_decimal, digits_value-decimal, decimal_nonempty, first_decimal, length-decimal-le}
-use Rattle.std.proofs.lemmas.Bool.{cond-true, cond-false, and_parts, and_from, le-leb, lt-ltb, le-ltb, cases_lt, ne_eqb, false≢true}
+use Rattle.std.proofs.lemmas.Bool.{cond-true, cond-false, and_from, le-leb, lt-ltb, le-ltb, cases_lt, ne_eqb}
 use Rattle.terms.specs.declared.edges.Edge.{Edge}
 use Rattle.terms.specs.declared.edges.Change.{Change}
 use Rattle.terms.specs.declared.edges.Change.TheVariants.{Add, Remove}
-use Rattle.terms.specs.Graph.{edge, edge_of}
+use Rattle.terms.specs.Graph.{edge_of}
 use Rattle.faults.specs.declared.text.TextFault.{TextFault}
-use Rattle.meaning.specs.Privileges.{Names, Proper, assigns, inherits, permits, administers, Depth, flat, around, Shallow, alike, declared, place_of, named}
-use Rattle.meaning.proofs.Privileges.{named_names, names_named, inner_depth, some_equal, some_none, alike_refl, nth_below, depth_positive}
+use Rattle.meaning.specs.Privileges.{Proper, assigns, inherits, permits, administers, Depth, alike, declared, named}
+use Rattle.meaning.proofs.Privileges.{named_names, names_named, inner_depth, some_equal, some_none, alike_refl, depth_positive}
 use Rattle.names.specs.Naming.{Orderly, found}
 use Rattle.text.specs.declared.letters.Letter.{Letter}
-use Rattle.text.specs.declared.letters.Letter.TheVariants.{User, Role, Privilege, Vault}
-use Rattle.text.specs.declared.signs.Sign.{Sign}
+use Rattle.text.specs.declared.letters.Letter.TheVariants.{User, Role, Privilege}
 use Rattle.text.specs.Spelling.{sign_in, most, first_vertex, is_digit, all_digits, told, is_numeral, signed, Node, leaf, pair, spelt}
-use Rattle.text.specs.Reading.{at, asked, in_range}
+use Rattle.text.specs.Reading.{asked}
 use Rattle.text.specs.Lines.{is_node_letter, well_formed, number_refusals, node_refusals}
 use Rattle.text.specs.Ends.{joined}
 use Rattle.text.specs.Tokens.{named_by}
 use Rattle.text.specs.Writing.{leaf_of, node_of}
-use Rattle.text.proofs.Texts.{own, unnamed, low_node}
+use Rattle.text.proofs.Texts.{own, low_node}
 
 -- Numbers
 

@@ -1,23 +1,20 @@
 -- The parts of a line, one after another.
-use Rattle.std.proofs.Common.{◌≡◌, ℕ, zero, suc, ◌+◌, ◌≤◌, ◌<◌, List, [], ◌∷◌, ◌++◌, length, Some, None, Option, true, false, sym, refl, ap, ◌∙◌, subst, arith, eqb, append_assoc, length-append}
-use Rattle.std.proofs.lemmas.Bool.{cond-true, cond-false, eq-eqb, ne_eqb}
+use Rattle.std.proofs.Common.{◌≡◌, ℕ, suc, ◌+◌, List, [], ◌∷◌, ◌++◌, length, Option, sym, refl, ap, ◌∙◌, subst, arith, append_assoc, length-append}
+use Rattle.std.proofs.lemmas.Bool.{cond-true, eq-eqb}
 use Rattle.terms.specs.declared.edges.Change.{Change}
 use Rattle.faults.specs.declared.text.TextFault.{TextFault}
-use Rattle.faults.specs.declared.text.TextFault.TheVariants.{Malformed}
 use Rattle.text.specs.declared.letters.Letter.{Letter}
 use Rattle.text.specs.declared.letters.Letter.TheVariants.{User, Vault}
 use Rattle.text.specs.declared.signs.Sign.{Sign}
 use Rattle.text.specs.declared.token.Token.{Token}
-use Rattle.text.specs.declared.ends.Named.{Named}
 use Rattle.text.specs.declared.ends.Ends.{Ends}
-use Rattle.text.specs.declared.draft.Draft.{Draft}
 use Rattle.text.specs.declared.draft.Draft.TheVariants.{Declare, Keep, Seat, Open, Command, Deliver}
-use Rattle.text.specs.Spelling.{letter_byte, sign_byte, told, Node, spelt, Part, mark, sign, numbered, node, spelt_part, spelt_parts}
-use Rattle.text.specs.Reading.{at, Need, a_byte, a_sign, a_letter, a_node, a_number, bracket, asked, Step, going, reading}
-use Rattle.text.specs.Lines.{Suits, for_byte, for_sign, for_letter, for_node, Line, no_more, before}
-use Rattle.text.specs.Tokens.{Passes, Fails, NextRead, ByteRead, SignRead, NumberRead, NodeRead, BracketRead, named_by}
+use Rattle.text.specs.Spelling.{letter_byte, sign_byte, Node, spelt, Part, mark, sign, numbered, node, spelt_part, spelt_parts}
+use Rattle.text.specs.Reading.{Need, a_byte, a_sign, a_letter, a_node, a_number, bracket, asked, Step, going, reading}
+use Rattle.text.specs.Lines.{for_byte, for_sign, for_letter, for_node, Line, no_more, before}
+use Rattle.text.specs.Tokens.{Fails, NextRead, ByteRead, SignRead, NumberRead, NodeRead, BracketRead}
 use Rattle.text.specs.Forms.{two_nodes, declare_form, keep_form, seat_form, open_form, deliver_form, command_form}
-use Rattle.text.specs.Drafts.{PartsRead, LetterRead, KeywordRead, Of, OfBoth, NodesRead, Drafted, DraftRead}
+use Rattle.text.specs.Drafts.{PartsRead, LetterRead, KeywordRead, OfBoth, NodesRead, DraftRead}
 use Rattle.text.proofs.Composing.{then_passes, fails_here, fails_then}
 
 -- Lines in a row

@@ -1,22 +1,20 @@
 -- A line that says a call is its text, and no other.
-use Rattle.std.proofs.Common.{◌≡◌, ℕ, zero, suc, ◌+◌, ◌-◌, ◌≤◌, ◌<◌, ◌⊎◌, inl, inr, Bool, true, false, not, ◌&&◌, if◌then◌else◌, eqb, leb, List, [], ◌∷◌, ◌++◌, length, take, Some, None, Option, sym, refl, ap, ◌∙◌, subst, arith}
+use Rattle.std.proofs.Common.{◌≡◌, ℕ, ◌+◌, ◌≤◌, Bool, true, ◌&&◌, leb, List, [], ◌∷◌, length, Some, sym, refl, ap, ◌∙◌, arith}
 use Rattle.std.specs.Fmt.{decimal}
-use Rattle.std.proofs.lemmas.Bool.{and_parts, and_from, le-leb, leb-true, false≢true}
+use Rattle.std.proofs.lemmas.Bool.{and_parts, leb-true}
 use Rattle.terms.specs.declared.edges.Edge.{Edge}
 use Rattle.terms.specs.declared.edges.Change.{Change}
 use Rattle.terms.specs.Graph.{edge, edge_of}
-use Rattle.faults.specs.declared.text.TextFault.{TextFault}
-use Rattle.calls.specs.declared.call.Call as call
 use Rattle.calls.specs.declared.call.Call.{Call}
 use Rattle.text.specs.declared.letters.Letter.{Letter}
 use Rattle.text.specs.declared.letters.Letter.TheVariants.{User, Vault}
 use Rattle.text.specs.declared.signs.Sign.{Sign}
-use Rattle.text.specs.Spelling.{sign_in, most, told, is_numeral, signed, Node, leaf, pair, spelt, Part, mark, sign, numbered, node, spelt_part, spelt_parts}
+use Rattle.text.specs.Spelling.{sign_in, most, told, is_numeral, signed, Node, Part, mark, sign, numbered, node, spelt_part, spelt_parts}
 use Rattle.text.specs.Reading.{Need, a_byte, a_sign, a_letter, a_node, a_number, more_digits, asked}
 use Rattle.text.specs.Lines.{well_formed, Suits, for_byte, for_sign, for_letter, for_node, Line, no_more, before, part_refusals, node_refusals, refusals}
 use Rattle.text.specs.Tokens.{named_by}
-use Rattle.text.specs.Forms.{form_of, form_by, NamedBoth, Whole, Accepted, Says, declares, keeps, seats, opens, commands, delivers, Said}
-use Rattle.text.specs.Writing.{node_of, vertex, parts_of, text_of}
+use Rattle.text.specs.Forms.{form_of, Accepted, Says, declares, keeps, seats, opens, commands, delivers, Said}
+use Rattle.text.specs.Writing.{vertex, parts_of, text_of}
 use Rattle.text.proofs.Texts.{in_bounds, both_none, low_most, numeral_of, signed_in, signed_edge, node_is}
 use Rattle.text.proofs.Wholes.{by_first}
 

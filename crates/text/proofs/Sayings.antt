@@ -1,18 +1,18 @@
 -- Parts say one call.
-use Rattle.std.proofs.Common.{◌≡◌, ℕ, zero, suc, Bool, true, false, if◌then◌else◌, eqb, List, [], ◌∷◌, Some, None, Option, sym, refl, ap, ◌∙◌, subst}
+use Rattle.std.proofs.Common.{◌≡◌, ℕ, zero, suc, true, if◌then◌else◌, eqb, List, [], ◌∷◌, Some, None, Option, sym, refl, ap, ◌∙◌}
 use Rattle.std.specs.Prelude.{MatchResult, Ok, Err, Result}
 use Rattle.terms.specs.declared.edges.Change.{Change}
 use Rattle.terms.specs.Graph.{edge}
 use Rattle.faults.specs.declared.text.TextFault.{TextFault}
 use Rattle.calls.specs.declared.call.Call as call
 use Rattle.calls.specs.declared.call.Call.{Call}
-use Rattle.text.specs.declared.letters.Letter.TheVariants.{User, Vault}
+use Rattle.text.specs.declared.letters.Letter.TheVariants.{User}
 use Rattle.text.specs.declared.signs.Sign.{Sign}
-use Rattle.text.specs.declared.signs.Sign.TheVariants.{Plus, Minus}
-use Rattle.text.specs.Spelling.{told, signed, Node, leaf, pair, Part, mark, sign, numbered, node}
+use Rattle.text.specs.declared.signs.Sign.TheVariants.{Plus}
+use Rattle.text.specs.Spelling.{told, signed, Node, leaf, Part, mark, sign, numbered, node}
 use Rattle.text.specs.Reading.{Need}
 use Rattle.text.specs.Tokens.{named_by}
-use Rattle.text.specs.Forms.{Refused, Accepted, Says, declares, keeps, seats, opens, commands, delivers, Said}
+use Rattle.text.specs.Forms.{Refused, Says, declares, keeps, seats, opens, commands, delivers, Said}
 use Rattle.text.proofs.Forwards.{plain}
 use Rattle.text.proofs.Uniques.{whole_once, never_both, refused_once}
 

@@ -1,18 +1,17 @@
 -- What is read is the text of the call that it says.
-use Rattle.std.proofs.Common.{rules, ◌≡◌, ℕ, zero, suc, ◌+◌, ◌-◌, ◌^◌, ◌≤◌, ◌<◌, ◌⊎◌, inl, inr, Bool, true, false, cond, ◌&&◌, ◌||◌, if◌then◌else◌, eqb, ltb, leb, List, [], ◌∷◌, ◌++◌, length, take, Some, None, Option, sym, refl, ap, ◌∙◌, subst, arith}
+use Rattle.std.proofs.Common.{rules, ◌≡◌, ℕ, zero, suc, ◌+◌, ◌-◌, ◌≤◌, ◌<◌, Bool, true, false, cond, ◌&&◌, ◌||◌, if◌then◌else◌, eqb, leb, List, [], ◌∷◌, ◌++◌, length, Some, None, Option, sym, refl, ap, ◌∙◌, subst, arith}
 use Rattle.std.specs.Fmt.{decimal}
 use Rattle.std.specs.List.{slice_get}
 use Rattle.std.proofs.lemmas.Str.Parse.{IsNumeralModel, numerals_by_fold}
-use Rattle.std.proofs.lemmas.Fmt.{decimal-digits_value, digits_decimal, digits_value-decimal}
-use Rattle.std.proofs.lemmas.Bool.{cond-true, cond-false, and_parts, and_from, cases_Bool, le-leb, leb-true, lt-ltb, lt-leb, le-ltb, false≢true, eqb-true, eq-eqb}
+use Rattle.std.proofs.lemmas.Fmt.{decimal-digits_value}
+use Rattle.std.proofs.lemmas.Bool.{cond-true, cond-false, and_parts, and_from, le-leb, leb-true, lt-ltb, lt-leb, le-ltb, false≢true, eqb-true, eq-eqb}
 use Rattle.std.proofs.lemmas.Bool.Decides.{nat_tests}
 use Rattle.std.proofs.lemmas.Option.{none-some}
 use Rattle.terms.specs.declared.edges.Edge.{Edge}
 use Rattle.terms.specs.declared.edges.Change.{Change}
-use Rattle.terms.specs.declared.edges.Change.TheVariants.{Add, Remove}
 use Rattle.terms.specs.Graph.{edge, edge_of}
 use Rattle.faults.specs.declared.text.TextFault.{TextFault}
-use Rattle.faults.specs.declared.text.TextFault.TheVariants.{OutOfRange, TooDeep}
+use Rattle.faults.specs.declared.text.TextFault.TheVariants.{OutOfRange}
 use Rattle.meaning.specs.Privileges.{alike, declared, place_of, named}
 use Rattle.meaning.proofs.Privileges.{alike_equal}
 use Rattle.names.specs.Naming.{found}
@@ -20,8 +19,8 @@ use Rattle.text.specs.declared.letters.Letter.{Letter}
 use Rattle.text.specs.declared.letters.Letter.TheVariants.{User, Role, Privilege, Vault}
 use Rattle.text.specs.declared.signs.Sign.{Sign}
 use Rattle.text.specs.declared.signs.Sign.TheVariants.{Plus, Minus}
-use Rattle.text.specs.Spelling.{sign_in, most, first_vertex, is_digit, all_digits, told, is_numeral, signed, Node, leaf, pair, spelt, Part, mark, sign, numbered, node}
-use Rattle.text.specs.Reading.{at, asked, in_range}
+use Rattle.text.specs.Spelling.{sign_in, most, first_vertex, is_digit, all_digits, told, is_numeral, signed, Node, leaf, pair, spelt}
+use Rattle.text.specs.Reading.{at, asked}
 use Rattle.text.specs.Lines.{is_node_letter, well_formed, number_refusals, node_refusals}
 use Rattle.text.specs.Ends.{joined}
 use Rattle.text.specs.Tokens.{named_by}

@@ -1,5 +1,5 @@
 -- A text is that of one line only.
-use Rattle.std.proofs.Common.{◌≡◌, ℕ, zero, suc, ◌+◌, ◌≤◌, ◌⊎◌, inl, inr, Bool, true, false, not, ◌&&◌, if◌then◌else◌, eqb, leb, List, [], ◌∷◌, ◌++◌, length, take, Some, None, Option, sym, refl, ap, ◌∙◌, subst, arith, append_assoc}
+use Rattle.std.proofs.Common.{◌≡◌, ℕ, suc, inl, inr, Bool, true, false, not, ◌&&◌, if◌then◌else◌, eqb, List, [], ◌∷◌, ◌++◌, length, take, Some, None, Option, sym, refl, ap, ◌∙◌, subst, arith, append_assoc}
 use Rattle.std.proofs.lemmas.Bool.{and_parts, and_from, false≢true, eqb-true, le-leb, cond-true}
 use Rattle.std.proofs.lemmas.Bool.Decides.{nat_tests}
 use Rattle.std.proofs.lemmas.List.{take_all}
@@ -13,7 +13,7 @@ use Rattle.text.specs.declared.signs.Sign.{Sign}
 use Rattle.text.specs.declared.signs.Sign.TheVariants.{Plus, Minus}
 use Rattle.text.specs.Spelling.{letter_byte, sign_byte, is_digit, all_digits, still, is_numeral, Node, leaf, pair, spelt, Part, mark, sign, numbered, node, spelt_part, spelt_parts}
 use Rattle.text.specs.Reading.{at, Need, a_byte, a_sign, a_letter, a_node, asked, reading}
-use Rattle.text.specs.Lines.{is_node_letter, well_formed, Suits, for_byte, for_sign, for_letter, for_node, Line, no_more, before, refusals}
+use Rattle.text.specs.Lines.{is_node_letter, well_formed, Suits, for_byte, for_sign, for_letter, for_node, Line, no_more, before}
 use Rattle.text.specs.Forms.{too_long, judged, undeclared, Whole, Refused, Accepted}
 use Rattle.text.proofs.Forwards.{first_of, plain_need, plain, still_parts, line_at}
 use Rattle.text.proofs.Stops.{some_same}

@@ -1,17 +1,15 @@
 -- Whole lines: refused, or said.
-use Rattle.std.proofs.Common.{◌≡◌, ℕ, zero, suc, ◌+◌, ◌≤◌, ◌<◌, ◌⊎◌, inl, inr, Bool, true, false, cond, if◌then◌else◌, eqb, leb, List, [], ◌∷◌, ◌++◌, length, take, Some, None, Ok, Err, Option, Result, sym, refl, ap, ◌∙◌, subst, arith, length-append}
+use Rattle.std.proofs.Common.{◌≡◌, ℕ, ◌+◌, ◌≤◌, ◌<◌, inl, inr, Bool, true, false, if◌then◌else◌, eqb, List, [], ◌∷◌, ◌++◌, length, take, Some, None, Ok, Err, Option, Result, sym, refl, ap, ◌∙◌, subst, arith}
 use Rattle.std.specs.Prelude.{MatchResult}
-use Rattle.std.proofs.lemmas.Bool.{cond-true, cond-false, le-leb, lt-leb, cases_lt}
+use Rattle.std.proofs.lemmas.Bool.{cond-false, lt-leb}
 use Rattle.std.proofs.lemmas.List.{take_all, length-take-le, append-nil}
 use Rattle.std.proofs.lemmas.Option.{none-some}
 use Rattle.terms.specs.declared.edges.Change.{Change}
 use Rattle.terms.specs.declared.edges.Edge.{Edge}
-use Rattle.terms.specs.Graph.{edge}
 use Rattle.faults.specs.declared.text.TextFault.{TextFault}
 use Rattle.faults.specs.declared.text.TextFault.TheVariants.{Malformed, Undeclared}
 use Rattle.calls.specs.declared.call.Call as call
 use Rattle.calls.specs.declared.call.Call.{Call}
-use Rattle.names.specs.Naming.{found}
 use Rattle.text.specs.declared.letters.Letter.TheVariants.{User, Vault}
 use Rattle.text.specs.declared.signs.Sign.{Sign}
 use Rattle.text.specs.declared.token.Token.{Token}
@@ -21,13 +19,12 @@ use Rattle.text.specs.declared.draft.Draft.{Draft}
 use Rattle.text.specs.declared.draft.Draft.TheVariants.{Declare, Keep, Seat, Open, Command, Deliver}
 use Rattle.text.specs.Spelling.{first_vertex, signed, told, Node, leaf, pair, spelt, Part, mark, sign, numbered, node, spelt_parts}
 use Rattle.text.specs.Reading.{at, Need, asked, reading}
-use Rattle.text.specs.Lines.{Line, refusals}
+use Rattle.text.specs.Lines.{refusals}
 use Rattle.text.specs.Ends.{joined, Missing, FirstMissing}
-use Rattle.text.specs.Tokens.{Passes, Fails, named_by}
+use Rattle.text.specs.Tokens.{Fails, named_by}
 use Rattle.text.specs.Forms.{command_form, form_by, form_of, too_long, judged, missing, node_undeclared, undeclared, Whole, Refused, Accepted, NamedBoth, Says, declares, keeps, seats, opens, commands, delivers, Said}
 use Rattle.text.specs.Drafts.{PartsRead, Of, OfBoth, Drafted, DraftRead, Vertices, Completes, Misses, NotEnded, Completed}
 use Rattle.text.proofs.Forwards.{first_of, plain, line_at}
-use Rattle.text.proofs.Stops.{some_same}
 
 -- The forms
 

@@ -1,15 +1,13 @@
 -- What the reading of a line's parts tells.
-use Rattle.std.specs.Prelude.{◌≡◌, ℕ, suc, ◌+◌, ◌<◌, List, [], ◌∷◌, ◌++◌, length, ◌≤◌, ◌⊎◌, Some, None, Ok, Err, Option, Result}
+use Rattle.std.specs.Prelude.{◌≡◌, ℕ, ◌+◌, ◌<◌, List, [], ◌∷◌, ◌++◌, length, ◌≤◌, ◌⊎◌, Some, Ok, Err, Result}
 use Rattle.terms.specs.declared.edges.Change.{Change}
 use Rattle.terms.specs.declared.edges.Edge.{Edge}
-use Rattle.terms.specs.Graph.{edge}
 use Rattle.faults.specs.declared.text.TextFault.{TextFault}
 use Rattle.faults.specs.declared.text.TextFault.TheVariants.{Malformed}
 use Rattle.calls.specs.declared.call.Call as call
 use Rattle.calls.specs.declared.call.Call.{Call}
 use Rattle.text.specs.declared.letters.Letter.{Letter}
 use Rattle.text.specs.declared.letters.Letter.TheVariants.{User, Vault}
-use Rattle.text.specs.declared.signs.Sign.{Sign}
 use Rattle.text.specs.declared.ends.Named.{Named}
 use Rattle.text.specs.declared.ends.Ends.{Ends}
 use Rattle.text.specs.declared.token.Token.{Token}

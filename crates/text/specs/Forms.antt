@@ -1,11 +1,11 @@
 -- The lines that there are, and what one says.
-use Rattle.std.specs.Prelude.{◌≡◌, ℕ, suc, ◌+◌, ◌≤◌, ◌⊎◌, if◌then◌else◌, List, [], ◌∷◌, ◌++◌, length, take, Some, None, Option, ◌==◌, nat_le}
+use Rattle.std.specs.Prelude.{◌≡◌, ℕ, ◌+◌, ◌≤◌, ◌⊎◌, if◌then◌else◌, List, [], ◌∷◌, ◌++◌, length, take, Some, None, Option, ◌==◌, nat_le}
 use Rattle.terms.specs.declared.edges.Change.{Change}
 use Rattle.terms.specs.Graph.{edge}
 use Rattle.faults.specs.declared.text.TextFault.{TextFault}
 use Rattle.faults.specs.declared.text.TextFault.TheVariants.{Malformed, Undeclared}
 use Rattle.calls.specs.declared.call.Call.{Call}
-use Rattle.calls.specs.declared.call.Call.TheVariants.{Declare, Keep, EndNaming, Seat, Open, Command, Apply, Deliver}
+use Rattle.calls.specs.declared.call.Call.TheVariants.{Declare, Keep, Seat, Open, Command, Deliver}
 use Rattle.text.specs.declared.letters.Letter.TheVariants.{User, Vault}
 use Rattle.text.specs.declared.signs.Sign.{Sign}
 use Rattle.text.specs.Spelling.{signed, told, Node, leaf, pair, spelt, Part, mark, sign, numbered, node, spelt_part, spelt_parts}

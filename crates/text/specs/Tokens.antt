@@ -1,5 +1,5 @@
 -- What the reading of one thing tells, whatever is to come after it.
-use Rattle.std.specs.Prelude.{◌≡◌, ℕ, suc, ◌+◌, ◌-◌, ◌≤◌, true, List, [], ◌∷◌, ◌++◌, length, Some, None, Option}
+use Rattle.std.specs.Prelude.{◌≡◌, ℕ, suc, ◌+◌, ◌-◌, ◌≤◌, true, List, [], ◌∷◌, ◌++◌, length, Some, Option}
 use Rattle.terms.specs.declared.edges.Change.{Change}
 use Rattle.faults.specs.declared.text.TextFault.{TextFault}
 use Rattle.text.specs.declared.letters.Letter.{Letter}
@@ -7,7 +7,7 @@ use Rattle.text.specs.declared.signs.Sign.{Sign}
 use Rattle.text.specs.declared.token.Token.{Token}
 use Rattle.text.specs.declared.ends.Ends.{Ends}
 use Rattle.text.specs.Ends.{joined}
-use Rattle.text.specs.Spelling.{sign_byte, first_vertex, signed, most, is_digit, all_digits, told, is_numeral, Node, leaf, pair, spelt}
+use Rattle.text.specs.Spelling.{sign_byte, first_vertex, most, is_digit, all_digits, told, is_numeral, Node, leaf, pair, spelt}
 use Rattle.text.specs.Reading.{Need, a_byte, a_sign, a_node, a_number, more_digits, bracket, asked, reading}
 use Rattle.text.specs.Lines.{well_formed}
 

@@ -1,7 +1,6 @@
 -- The text of a call: its vertices by their nodes.
-use Rattle.std.specs.Prelude.{◌≡◌, ℕ, zero, suc, ◌-◌, ◌<◌, not, ◌++◌, length, drop, Ok, Err, Result, if◌then◌else◌, List, [], ◌∷◌, Some, None, Option, nat_lt}
+use Rattle.std.specs.Prelude.{◌≡◌, ℕ, zero, suc, ◌-◌, not, ◌++◌, length, drop, Ok, Err, Result, if◌then◌else◌, List, [], ◌∷◌, Some, None, Option, nat_lt}
 use Rattle.std.specs.Fmt.{decimal}
-use Rattle.terms.specs.declared.edges.Edge.{Edge}
 use Rattle.terms.specs.declared.edges.Change.{Change}
 use Rattle.terms.specs.Graph.{edge_of, is_user}
 use Rattle.faults.specs.declared.line.LineFault.{LineFault}

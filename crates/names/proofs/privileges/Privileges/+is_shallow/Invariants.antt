@@ -1,4 +1,3 @@
-use Rattle.std.proofs.Common.{◌≡◌, ℕ}
 use Rattle.names.proofs.privileges.Privileges.+is_shallow.Given as goal
 
 -- so many levels of nesting are left

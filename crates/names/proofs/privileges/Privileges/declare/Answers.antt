@@ -1,5 +1,4 @@
-use Rattle.std.proofs.Common.{rules, ◌≡◌, true, None, ap, sym, ◌∙◌, subst, ◌∷◌, [], ◌++◌, ◌≤◌}
-use Rattle.std.specs.Vec.{vec_capacity}
+use Rattle.std.proofs.Common.{rules, ◌≡◌, true, None, sym, subst, ◌∷◌, [], ◌++◌}
 use Rattle.terms.specs.Graph.{edge_of}
 use Rattle.meaning.specs.Privileges.{is_proper, is_shallow}
 use Rattle.names.specs.Naming.{Orderly, found}

@@ -1,6 +1,5 @@
-use Rattle.std.proofs.Common.{◌∷◌, [], ap, subst, ◌∙◌, List, ℕ}
+use Rattle.std.proofs.Common.{◌∷◌, [], ap, subst, ◌∙◌, ℕ}
 use Rattle.terms.specs.declared.edges.Edge.{Edge}
-use Rattle.text.specs.declared.signs.Sign.{Sign}
 use Rattle.text.specs.Spelling.{sign_byte, spelt}
 use Rattle.text.specs.Writing.{node_of}
 use Rattle.text.specs.Adding.{Adds}
