@@ -7,7 +7,7 @@ mod jobs;
 mod tables;
 
 use crate::jobs::{Closures, Job, Questions};
-use crate::tables::{Size, fill};
+use crate::tables::{LARGE, SMALL, Size, fill};
 use images::image::Image;
 use images::writer::write;
 use pairs::pairs::Pairs;
@@ -66,7 +66,7 @@ fn image_of<'a, R: Reader>(table: &R, buffer: &'a mut [u8]) -> &'a [u8] {
 // Writes the image of the larger table.
 fn put_image(rt: &HostRuntime) -> anyhow::Result<()> {
     let mut rows = Rows::new(rt.alloc(), 512)?;
-    fill(&mut rows, Size::Large);
+    fill(&mut rows, LARGE);
     let mut buffer = [0u8; 2050];
     rt.stdout().write_all(image_of(&rows, &mut buffer))?;
     Ok(())
@@ -90,8 +90,8 @@ fn readers(rt: &HostRuntime, how: Shown, size: Size) -> anyhow::Result<()> {
 }
 
 fn all(rt: &HostRuntime, how: Shown) -> anyhow::Result<()> {
-    readers(rt, how, Size::Large)?;
-    readers(rt, how, Size::Small)
+    readers(rt, how, LARGE)?;
+    readers(rt, how, SMALL)
 }
 
 fn main(rt: HostRuntime) -> anyhow::Result<()> {

@@ -1,87 +1,71 @@
 use stores::store::Store;
 use terms::edges::Edge;
 
-// How large a table is.
-#[derive(Clone, Copy, PartialEq, Eq)]
-pub enum Size {
-    Large,
-    Small,
+// How large a table is: as many users as roles; how many roles each user is in; how many of the roles,
+// which stand in one chain, have a short cut, and over how many it goes; how many privileges each has,
+// and how many roles have one more.
+#[derive(Clone, Copy)]
+pub struct Size {
+    roles: u16,
+    memberships: u16,
+    cuts: u16,
+    cut: u16,
+    grants: u16,
+    more: u16,
 }
 
-// Each of 64 users in four of 64 roles, which stand in one chain with 37 short cuts; each role has two
-// privileges, 16 of them three: 500 edges.
-fn fill_large<S: Store>(store: &mut S) {
-    for user in 0..64u16 {
-        for k in 0..4u16 {
-            let _ = store.put(Edge {
-                from: user,
-                to: 64 + (user * 7 + k * 13) % 64,
-            });
-        }
-    }
-    for role in 0..63u16 {
-        let _ = store.put(Edge {
-            from: 64 + role,
-            to: 65 + role,
-        });
-    }
-    for role in 0..37u16 {
-        let _ = store.put(Edge {
-            from: 64 + role,
-            to: 91 + role,
-        });
-    }
-    for role in 0..64u16 {
-        let _ = store.put(Edge {
-            from: 64 + role,
-            to: 128 + 2 * role,
-        });
-        let _ = store.put(Edge {
-            from: 64 + role,
-            to: 129 + 2 * role,
-        });
-    }
-    for role in 0..16u16 {
-        let _ = store.put(Edge {
-            from: 64 + role,
-            to: 133 + 2 * role,
-        });
-    }
-}
+// 500 edges.
+pub const LARGE: Size = Size {
+    roles: 64,
+    memberships: 4,
+    cuts: 37,
+    cut: 27,
+    grants: 2,
+    more: 16,
+};
 
-// Each of 16 users in one of 16 roles, which stand in one chain with three short cuts; each role has one
-// privilege: 50 edges.
-fn fill_small<S: Store>(store: &mut S) {
-    for user in 0..16u16 {
-        let _ = store.put(Edge {
-            from: user,
-            to: 64 + user * 7 % 16,
-        });
-    }
-    for role in 0..15u16 {
-        let _ = store.put(Edge {
-            from: 64 + role,
-            to: 65 + role,
-        });
-    }
-    for role in 0..3u16 {
-        let _ = store.put(Edge {
-            from: 64 + role,
-            to: 71 + role,
-        });
-    }
-    for role in 0..16u16 {
-        let _ = store.put(Edge {
-            from: 64 + role,
-            to: 128 + role,
-        });
-    }
+// 50 edges.
+pub const SMALL: Size = Size {
+    roles: 16,
+    memberships: 1,
+    cuts: 3,
+    cut: 7,
+    grants: 1,
+    more: 0,
+};
+
+// Puts an edge from a user or a role; one that is no vault edge is refused, which none of these are.
+fn put<S: Store>(store: &mut S, from: u16, first: u16, place: u16) {
+    let to = first.saturating_add(place);
+    let _ = store.put(Edge { from, to });
 }
 
 // Fills an empty store.
 pub fn fill<S: Store>(store: &mut S, size: Size) {
-    match size {
-        Size::Large => fill_large(store),
-        Size::Small => fill_small(store),
+    for user in 0..size.roles {
+        for k in 0..size.memberships {
+            let place = user.saturating_mul(7).saturating_add(k.saturating_mul(13)) % size.roles;
+            put(store, user, 64, place);
+        }
+    }
+    for k in 0..size.roles {
+        let role = 64u16.saturating_add(k);
+        if k.saturating_add(1) < size.roles {
+            put(store, role, 65, k);
+        }
+        if k < size.cuts {
+            put(store, role, 64u16.saturating_add(size.cut), k);
+        }
+        for j in 0..size.grants {
+            put(
+                store,
+                role,
+                128u16.saturating_add(j),
+                k.saturating_mul(size.grants),
+            );
+        }
+        if k < size.more {
+            put(store, role, 133, k.saturating_mul(2));
+        }
     }
 }

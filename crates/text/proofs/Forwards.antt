@@ -115,27 +115,24 @@ module _ (r : Ranges) where
       ∙ first_number r c l ds (reading r st (c + length (spelt_part (numbered l ds))) s)
   part_at (for_node {d = d} {t = t} w) st c s h = node_at d t w st c s h
 
+-- no letter and no sign is a digit
+pub letter_still : (l : Letter) → not (is_digit (letter_byte l)) ≡ true
+letter_still User = refl
+letter_still Role = refl
+letter_still Privilege = refl
+letter_still Vault = refl
+
+pub sign_still : (g : Sign) → not (is_digit (sign_byte g)) ≡ true
+sign_still Plus = refl
+sign_still Minus = refl
+
 -- what parts begin with
 still_part : {n : Need} {p : Part} → Suits n p → (s : List ℕ) → plain_need n ≡ true → still (spelt_part p ++ s) ≡ true
 still_part (for_byte {x = x}) s h = h
-still_part (for_sign {s = Plus}) s h = refl
-still_part (for_sign {s = Minus}) s h = refl
-still_part (for_letter {l = l} is) s h = by l
-  where
-    by : (l : Letter) → not (is_digit (letter_byte l)) ≡ true
-    by User = refl
-    by Role = refl
-    by Privilege = refl
-    by Vault = refl
-still_part (for_node {t = t} w) s h = by t
-  where
-    by : (t : Node) → still (spelt t ++ s) ≡ true
-    by (leaf User ds) = refl
-    by (leaf Role ds) = refl
-    by (leaf Privilege ds) = refl
-    by (leaf Vault ds) = refl
-    by (pair Plus a b) = refl
-    by (pair Minus a b) = refl
+still_part (for_sign {s = g}) s h = sign_still g
+still_part (for_letter {l = l} is) s h = letter_still l
+still_part (for_node {t = leaf l ds} w) s h = letter_still l
+still_part (for_node {t = pair g a b} w) s h = sign_still g
 
 pub still_parts : {ns : List Need} {ps : List Part} → Line ns ps → plain ns ≡ true → still (spelt_parts ps) ≡ true
 still_parts no_more h = refl

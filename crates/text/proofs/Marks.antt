@@ -11,6 +11,7 @@ use Rattle.text.specs.Spelling.{letter_byte, sign_byte, is_digit, told, still, N
 use Rattle.text.specs.Reading.{at, Need, a_byte, a_sign, a_letter, a_node, a_number, more_digits, Ranges, in_range}
 use Rattle.text.specs.Lines.{number_refusals, node_refusals, part_refusals, refusals}
 use Rattle.text.specs.Columns.{column_of, Among}
+use Rattle.text.proofs.Forwards.{letter_still, sign_still}
 
 -- a refusal of text from column c on: where it stands, and that no digit stands there and no byte is wrong
 pub record Mark (c : ℕ) (s : List ℕ) (f : TextFault) : Type 0 where
@@ -73,25 +74,15 @@ module _ (r : Ranges) where
   number_marked : (c : ℕ) (l : Letter) (ds : List ℕ) → Marked c (letter_byte l ∷ ds) c (number_refusals r c l ds)
   number_marked c l ds = by (in_range r l (told 0 ds))
     where
-      no_digit : (l : Letter) → not (is_digit (letter_byte l)) ≡ true
-      no_digit User = refl
-      no_digit Role = refl
-      no_digit Privilege = refl
-      no_digit Vault = refl
-
       by : (b : Bool) → Marked c (letter_byte l ∷ ds) c (if b then [] else OutOfRange (at c) ∷ [])
       by true = no_mark
       by false =
-          a_mark (record { place = 0; column = omega arith; within = omega arith; no_digit = no_digit l; right = λ k q. absurd (omega (arith, ap fault_kind q)) }) (omega arith) no_mark
+          a_mark (record { place = 0; column = omega arith; within = omega arith; no_digit = letter_still l; right = λ k q. absurd (omega (arith, ap fault_kind q)) }) (omega arith) no_mark
 
   -- a sign and a bracket
   deep_marked : (c : ℕ) (g : Sign) → Marked c (sign_byte g ∷ 40 ∷ []) c (TooDeep (at c) ∷ [])
   deep_marked c g =
-      a_mark (record { place = 0; column = omega arith; within = omega arith; no_digit = no_digit g; right = λ k q. absurd (omega (arith, ap fault_kind q)) }) (omega arith) no_mark
-    where
-      no_digit : (g : Sign) → not (is_digit (sign_byte g)) ≡ true
-      no_digit Plus = refl
-      no_digit Minus = refl
+      a_mark (record { place = 0; column = omega arith; within = omega arith; no_digit = sign_still g; right = λ k q. absurd (omega (arith, ap fault_kind q)) }) (omega arith) no_mark
 
   pair_marked : (d c : ℕ) (g : Sign) (a b : Node) (fs : List TextFault) → Marked c (sign_byte g ∷ 40 ∷ []) c fs
       → Marked (c + 2) (spelt a) (c + 2) (node_refusals r d (c + 2) a)

@@ -30,21 +30,16 @@ numeral_digits (x ∷ ds) h = by (eqb x 48) refl h
     by true e d = let is = eqb-true x 48 e in let first : is_digit x ≡ true = grind (arith, nat_tests) in and_from _ _ first (none ds d)
     by false e d = d
 
+apart : (x y : ℕ) → is_digit x ≡ true → not (is_digit y) ≡ true → x ≡ y → ⊥
+apart x y d n e = let no : not (is_digit x) ≡ true = ap (λ (z : ℕ). not (is_digit z)) e ∙ n in grind (arith, nat_tests)
+
 -- digits, where none comes next
 digits_once : (ds es u w : List ℕ) → all_digits ds ≡ true → all_digits es ≡ true → still u ≡ true → still w ≡ true → ds ++ u ≡ es ++ w → (ds ≡ es) × (u ≡ w)
 digits_once [] [] u w a b p q e = (refl, e)
 digits_once [] (y ∷ es) [] w a b p q e = absurd (omega (arith, ap length e))
-digits_once [] (y ∷ es) (x ∷ u) w a b p q e =
-    let is : x ≡ y = cc in
-    let one = (and_parts (is_digit y) (all_digits es) b).0 in
-    let none : not (is_digit y) ≡ true = subst (λ (z : ℕ). not (is_digit z) ≡ true) is p in
-    absurd (grind (arith, nat_tests))
+digits_once [] (y ∷ es) (x ∷ u) w a b p q e = absurd (apart y x (and_parts (is_digit y) (all_digits es) b).0 p cc)
 digits_once (x ∷ ds) [] u [] a b p q e = absurd (omega (arith, ap length e))
-digits_once (x ∷ ds) [] u (y ∷ w) a b p q e =
-    let is : x ≡ y = cc in
-    let one = (and_parts (is_digit x) (all_digits ds) a).0 in
-    let none : not (is_digit x) ≡ true = subst (λ (z : ℕ). not (is_digit z) ≡ true) (sym is) q in
-    absurd (grind (arith, nat_tests))
+digits_once (x ∷ ds) [] u (y ∷ w) a b p q e = absurd (apart x y (and_parts (is_digit x) (all_digits ds) a).0 q cc)
 digits_once (x ∷ ds) (y ∷ es) u w a b p q e =
     let is : x ≡ y = cc in
     let tail : ds ++ u ≡ es ++ w = cc in
