@@ -1,5 +1,5 @@
-//! Examples of links, stores, banks, images and sessions, run: what the contracts say of every case,
-//! seen at a few.
+//! Examples of links, stores, banks, images, sessions, declared privileges and lines, run: what the
+//! contracts say of every case, seen at a few.
 #![tactic(auto)]
 
 #[cfg(test)]
@@ -11,7 +11,11 @@ mod edges;
 #[cfg(test)]
 mod images_run;
 #[cfg(test)]
+mod lines_run;
+#[cfg(test)]
 mod links_run;
+#[cfg(test)]
+mod names_run;
 #[cfg(test)]
 mod readers_run;
 #[cfg(test)]
