@@ -502,6 +502,37 @@ fn bytes_changed(rt: HostRuntime) -> Result<(), Fail> {
     for place in 0usize..10 {
         each_byte(&names, place)?;
     }
+    for place in 0usize..11 {
+        each_byte_of_more(&names, place)?;
+    }
+    Ok(())
+}
+
+// The same of `u6 + r6 p12`, where a digit in place of a space may make a number out of range, and a
+// zero may come to stand in front of a digit.
+fn refused_at(place: usize, byte: u8) -> Option<TextFault> {
+    let digit = byte.is_ascii_digit();
+    match place {
+        2 if digit && byte > b'3' => Some(out_of_range(0)),
+        7 if digit && byte > b'3' => Some(out_of_range(5)),
+        9 if byte == b'0' => Some(malformed(10)),
+        10 if digit => None,
+        10 => Some(malformed(10)),
+        _ => wrong_at(place, byte).map(malformed),
+    }
+}
+
+fn each_byte_of_more(names: &Privileges, place: usize) -> Result<(), Fail> {
+    for byte in 0u8..=255 {
+        let mut line = *b"u6 + r6 p12";
+        if let Some(old) = line.get_mut(place) {
+            *old = byte;
+        }
+        claim(
+            read_call(names, &line).err() == refused_at(place, byte),
+            "a line of larger numbers with one byte changed",
+        )?;
+    }
     Ok(())
 }
 
