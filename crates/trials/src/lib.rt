@@ -22,3 +22,5 @@ mod readers_run;
 mod sessions_run;
 #[cfg(test)]
 mod stores_run;
+#[cfg(test)]
+mod writer_run;

@@ -26,11 +26,11 @@ fn undeclared(column: usize) -> TextFault {
     TextFault::Undeclared(Column { column })
 }
 
-fn adding(from: u16, to: u16) -> Change {
+pub(crate) fn adding(from: u16, to: u16) -> Change {
     Change::Add(pair(from, to))
 }
 
-fn removing(from: u16, to: u16) -> Change {
+pub(crate) fn removing(from: u16, to: u16) -> Change {
     Change::Remove(pair(from, to))
 }
 
@@ -71,7 +71,7 @@ fn declare(names: &mut Privileges, change: Change, number: u16) -> Result<(), Fa
 }
 
 // 256 is +(u2,r0), 257 is +(r2,256), 258 is -(r1,p0).
-fn three(heap: Global) -> Result<Privileges, Fail> {
+pub(crate) fn three(heap: Global) -> Result<Privileges, Fail> {
     let mut names = Privileges::new(heap)?;
     declare(&mut names, adding(2, 64), 256)?;
     declare(&mut names, adding(66, 256), 257)?;
@@ -80,7 +80,7 @@ fn three(heap: Global) -> Result<Privileges, Fail> {
 }
 
 // Eight in one another: 256 is +(r10,p100), and each other is the right to give r10 the one before it.
-fn eight(heap: Global) -> Result<Privileges, Fail> {
+pub(crate) fn eight(heap: Global) -> Result<Privileges, Fail> {
     let mut names = Privileges::new(heap)?;
     declare(&mut names, adding(74, 228), 256)?;
     for inner in 256u16..263 {
