@@ -1,13 +1,11 @@
 -- The refusals of a well-formed line: their columns ascend, and no digit stands there.
-use Rattle.std.proofs.Common.{◌≡◌, ℕ, zero, suc, ◌+◌, ◌≤◌, ◌<◌, Bool, true, false, not, ◌⊎◌, inl, inr, if◌then◌else◌, List, [], ◌∷◌, ◌++◌, length, drop, sym, refl, ap, ◌∙◌, subst, arith, length-append}
+use Rattle.std.proofs.Common.{◌≡◌, ℕ, zero, suc, ◌+◌, ◌≤◌, ◌<◌, Bool, true, false, ◌⊎◌, inl, inr, if◌then◌else◌, List, [], ◌∷◌, ◌++◌, length, drop, sym, refl, ap, ◌∙◌, subst, arith, length-append}
 use Rattle.std.proofs.Math.Seq.{drop-append-add}
 use Rattle.faults.specs.declared.text.TextFault.{TextFault}
 use Rattle.faults.specs.declared.text.TextFault.TheVariants.{Malformed, OutOfRange, TooDeep, Undeclared}
 use Rattle.text.specs.declared.letters.Letter.{Letter}
-use Rattle.text.specs.declared.letters.Letter.TheVariants.{User, Role, Privilege, Vault}
 use Rattle.text.specs.declared.signs.Sign.{Sign}
-use Rattle.text.specs.declared.signs.Sign.TheVariants.{Plus, Minus}
-use Rattle.text.specs.Spelling.{letter_byte, sign_byte, is_digit, told, still, Node, leaf, pair, spelt, Part, mark, sign, numbered, node, spelt_part, spelt_parts}
+use Rattle.text.specs.Spelling.{letter_byte, sign_byte, told, still, Node, leaf, pair, spelt, Part, mark, sign, numbered, node, spelt_part, spelt_parts}
 use Rattle.text.specs.Reading.{at, Need, a_byte, a_sign, a_letter, a_node, a_number, more_digits, Ranges, in_range}
 use Rattle.text.specs.Lines.{number_refusals, node_refusals, part_refusals, refusals}
 use Rattle.text.specs.Columns.{column_of, Among}

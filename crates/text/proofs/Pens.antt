@@ -1,9 +1,9 @@
 -- Writing, byte by byte.
-use Rattle.std.proofs.Common.{◌≡◌, ℕ, ◌+◌, ◌/◌, ◌%◌, ◌^◌, ◌≤◌, ◌<◌, true, not, None, List, [], ◌∷◌, ◌++◌, length, sym, refl, ap, ◌∙◌, subst, arith, append_assoc, length-append}
+use Rattle.std.proofs.Common.{◌≡◌, ℕ, ◌+◌, ◌/◌, ◌%◌, ◌^◌, ◌≤◌, ◌<◌, true, List, [], ◌∷◌, ◌++◌, length, sym, refl, ap, ◌∙◌, subst, arith, append_assoc, length-append}
 use Rattle.std.specs.Fmt.{decimal}
 use Rattle.std.proofs.lemmas.Fmt.{decimal_step, decimal_by_steps}
 use Rattle.std.proofs.lemmas.List.{append-nil}
-use Rattle.std.proofs.lemmas.Bool.{ltb-true, cond-false, le-ltb}
+use Rattle.std.proofs.lemmas.Bool.{ltb-true}
 use Rattle.terms.specs.declared.edges.Change.{Change}
 use Rattle.terms.specs.Graph.{edge_of, is_user}
 use Rattle.calls.specs.declared.call.Call.TheVariants.{Command}
@@ -11,7 +11,7 @@ use Rattle.meaning.specs.Privileges.{is_proper}
 use Rattle.meaning.proofs.Privileges.{proper_decides}
 use Rattle.names.specs.Naming.{Orderly}
 use Rattle.text.specs.Spelling.{sign_byte, sign_in, spelt}
-use Rattle.text.specs.Writing.{node_of, text_of, write_answer}
+use Rattle.text.specs.Writing.{node_of, text_of}
 use Rattle.text.specs.Adding.{Adds}
 use Rattle.text.proofs.Commands.{written_short}
 
@@ -68,7 +68,3 @@ pub stands_alone : (D : List Change) → Orderly D → (u : ℕ) (c : Change) �
 stands_alone D o u c h e a b q p =
     let short = written_short D o u c (ltb-true u 64 h) ((proper_decides D (edge_of c)).0 e) in
     p (omega (arith, ap length q)) ∙ ap (λ (t : List ℕ). t ++ text_of D (Command u c)) q
-
--- no question is answered no
-pub may_write : (D : List Change) (u : ℕ) (c : Change) (room : ℕ) → is_user u ≡ true → is_proper D (edge_of c) ≡ true → 128 ≤ room → write_answer D u c room ≡ None
-may_write D u c room h e r = cond-false _ _ _ (ap not h) ∙ cond-false _ _ _ (ap not e) ∙ cond-false _ _ _ (le-ltb room 128 r)

@@ -52,7 +52,10 @@ write_answer D u c room =
     else None
 
 -- It writes the line at the start and tells how long it is, or alters nothing.
+abbrev pub WroteLine : List Change → ℕ → Change → List ℕ → List ℕ → ℕ → Type 0
+WroteLine D u c before after n = (n ≡ length (text_of D (Command u c))) × (after ≡ text_of D (Command u c) ++ drop n before)
+
 abbrev pub Wrote : List Change → ℕ → Change → List ℕ → List ℕ → Result ℕ LineFault → Type 0
 Wrote D u c before after (Ok n) =
-    (write_answer D u c (length before) ≡ None) × (n ≡ length (text_of D (Command u c))) × (after ≡ text_of D (Command u c) ++ drop n before)
+    (write_answer D u c (length before) ≡ None) × WroteLine D u c before after n
 Wrote D u c before after (Err f) = (write_answer D u c (length before) ≡ Some f) × (after ≡ before)

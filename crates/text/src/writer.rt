@@ -1,8 +1,11 @@
-ghost use Rattle.std.specs.Prelude.{◌∷◌};
+ghost use Rattle.std.specs.Prelude.{◌≡◌, ◌≤◌, ◌∷◌, length, true};
 ghost use Rattle.std.specs.Fmt.{decimal};
 ghost use Rattle.text.specs.Spelling.{letter_byte, spelt};
 ghost use Rattle.text.specs.Adding.{Adds};
-ghost use Rattle.text.specs.Writing.{leaf_of, node_of, text_of, Wrote};
+ghost use Rattle.text.specs.Writing.{leaf_of, node_of, text_of, Wrote, WroteLine};
+ghost use Rattle.terms.specs.Graph.{edge_of, is_user};
+ghost use Rattle.meaning.specs.Privileges.{is_proper};
+ghost use Rattle.names.specs.Naming.{Orderly};
 ghost use Rattle.calls.specs.declared.call.Call.TheVariants.{Command as Commanding};
 
 use crate::letters::Letter;
@@ -90,6 +93,19 @@ impl Pen {
     }
 }
 
+// Writes the line of a command at the start of `out`, where all questions are answered yes.
+fn write(privileges: &Privileges, user: u16, change: Change, out: &mut [u8]) -> usize
+    requires order { Orderly privileges.now }
+    requires user { is_user user ≡ true }
+    requires edge { is_proper privileges.now (edge_of change) ≡ true }
+    requires room { 128 ≤ length out.old }
+    ensures { WroteLine privileges.now user change out.old out.new result }
+{
+    let mut pen = Pen::new();
+    pen.command(privileges, user, change);
+    pen.copy_to(out)
+}
+
 // Writes the line of a command at the start of `out` and tells how long it is; no other byte is
 // altered. Refused with 1 unless the user is one, then with 2 unless the change is about an edge that
 // has no undeclared privilege in it, then with 21 unless there is room for the longest line.
@@ -110,7 +126,5 @@ pub fn write_command(
     if out.len() < LONGEST {
         return Err(LineFault::NoRoom);
     }
-    let mut pen = Pen::new();
-    pen.command(privileges, user, change);
-    Ok(pen.copy_to(out))
+    Ok(write(privileges, user, change, out))
 }
