@@ -120,4 +120,4 @@ reads_back D o u c h =
     let u64 = ltb-true u 64 user in
     let proper = (proper_decides D (edge_of c)).0 edge in
     let short = written_short D o u c u64 proper in
-    (omega arith, λ r a. answers_once D command_form (text_of D (Command u c)) r (Ok (Command u c)) refl a (written_said D o u c u64 proper))
+    (omega arith, refl, λ r a. answers_once D command_form (text_of D (Command u c)) r (Ok (Command u c)) refl a (written_said D o u c u64 proper))

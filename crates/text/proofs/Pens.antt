@@ -39,14 +39,6 @@ pub adds_digits : (a b c : List ℕ) (n x : ℕ) → 10 ≤ n → n < 2 ^ 16 →
 adds_digits a b c n x h s e p q =
     subst (λ (t : List ℕ). Adds a t c) (ap (λ (y : ℕ). decimal (n / 10) ++ (y ∷ [])) e ∙ sym (more_digits n h s)) (adds_then a (decimal (n / 10)) b (x ∷ []) c p q)
 
--- a bracket behind its sign, byte by byte
-pub adds_bracket : (a b c d e f g : List ℕ) (x : ℕ) (s t : List ℕ) → Adds a (x ∷ []) b → Adds b (40 ∷ []) c → Adds c s d → Adds d (44 ∷ []) e → Adds e t f → Adds f (41 ∷ []) g
-    → Adds a (x ∷ 40 ∷ (s ++ (44 ∷ (t ++ (41 ∷ []))))) g
-adds_bracket a b c d e f g x s t p1 p2 p3 p4 p5 p6 =
-    adds_then a (x ∷ []) b (40 ∷ (s ++ (44 ∷ (t ++ (41 ∷ []))))) g p1
-    (adds_then b (40 ∷ []) c (s ++ (44 ∷ (t ++ (41 ∷ [])))) g p2
-    (adds_then c s d (44 ∷ (t ++ (41 ∷ []))) g p3 (adds_then d (44 ∷ []) e (t ++ (41 ∷ [])) g p4 (adds_then e t f (41 ∷ []) g p5 p6))))
-
 -- a command, part by part
 pub adds_command : (D : List Change) (u : ℕ) (c : Change) (a1 a2 a3 a4 a5 a6 a7 a8 : List ℕ) → Adds a1 (117 ∷ decimal u) a2 → Adds a2 (32 ∷ []) a3 → Adds a3 (sign_byte (sign_in c) ∷ []) a4
     → Adds a4 (32 ∷ []) a5 → Adds a5 (spelt (node_of D 8 (edge_of c).from)) a6 → Adds a6 (32 ∷ []) a7 → Adds a7 (spelt (node_of D 8 (edge_of c).to)) a8

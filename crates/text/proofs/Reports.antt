@@ -157,10 +157,6 @@ begun k s t rest l e =
 not_within : (ns : List Need) (s : List ℕ) (k m : ℕ) (ps : List Part) → FirstWrong ns s k → Line ns ps → take m (spelt_parts ps) ≡ take m s → suc k ≤ m → ⊥
 not_within ns s k m ps w l e j = w.2 ps l (agree_less (suc k) m s (spelt_parts ps) j e)
 
--- a column is a number
-same_column : (f g : TextFault) (j k : ℕ) → f ≡ Malformed (at j) → g ≡ Malformed (at k) → j ≡ k → g ≡ f
-same_column f g j k e q i = q ∙ sym (ap (λ (n : ℕ). Malformed (at n)) i) ∙ sym e
-
 wrong_least : (ns : List Need) (s : List ℕ) (f : TextFault) (k : ℕ) → Due ns s f → FirstWrong ns s k → (Malformed (at k) ≡ f) ⊎ (column_of f < k)
 wrong_least ns s (Malformed j) k d w = by (cases_order j.column k)
   where
@@ -211,16 +207,27 @@ module _ (ns : List Need) (s : List ℕ) (h : plain ns ≡ true) (ps : List Part
           (λ (y : d.shared ≤ column_of g). y) (cases_lt (column_of g) d.shared) in
           d.stands s (sym (agree_less d.shared m s (spelt_parts ps) (omega arith) e)) (sym (agree_still d.shared m s (spelt_parts ps) (omega arith) e) ∙ u)
 
-  shared_least : (f g : TextFault) (m : ℕ) → reading asked ns 0 s ≡ Some f → Among g (refusals asked ns 0 ps) → Spoken 0 g s m → Spoken 0 g (spelt_parts ps) m → column_of g < m
-      → take m (spelt_parts ps) ≡ take m s → (g ≡ f) ⊎ (column_of f < column_of g)
-  shared_least f g m r a p q j e = by (refusals asked ns 0 ps) (line_marked asked ns 0 ps) (line_at asked l h 0) a
+  -- so this line is refused, and with what comes no later
+  refused_first : (g : TextFault) (m : ℕ) → Among g (refusals asked ns 0 ps) → Spoken 0 g s m → Spoken 0 g (spelt_parts ps) m → column_of g < m → take m (spelt_parts ps) ≡ take m s
+      → (f : TextFault) × (reading asked ns 0 s ≡ Some f) × ((g ≡ f) ⊎ (column_of f < column_of g))
+  refused_first g m a p q j e = by (refusals asked ns 0 ps) (line_marked asked ns 0 ps) (line_at asked l h 0) a
     where
-      by : (fs : List TextFault) → Marked 0 (spelt_parts ps) 0 fs → reading asked ns 0 (spelt_parts ps) ≡ first_of fs None → Among g fs → (g ≡ f) ⊎ (column_of f < column_of g)
+      by : (fs : List TextFault) → Marked 0 (spelt_parts ps) 0 fs → reading asked ns 0 (spelt_parts ps) ≡ first_of fs None → Among g fs
+          → (f : TextFault) × (reading asked ns 0 s ≡ Some f) × ((g ≡ f) ⊎ (column_of f < column_of g))
       by [] marks i a = absurd a
       by (o ∷ fs) marks i a =
           let first = first_least marks g a in
-          let same : o ≡ f = some_same (sym (carried o g m (stops (spelt_parts ps) 0 o (plainly h) i) (mark_of marks o (inl refl)).0.right (mark_of marks g a).0 first p q j e) ∙ r) in
-          subst (λ (o : TextFault). (g ≡ o) ⊎ (column_of o < column_of g)) same first
+          (o, carried o g m (stops (spelt_parts ps) 0 o (plainly h) i) (mark_of marks o (inl refl)).0.right (mark_of marks g a).0 first p q j e, first)
+
+  shared_least : (f g : TextFault) (m : ℕ) → reading asked ns 0 s ≡ Some f → Among g (refusals asked ns 0 ps) → Spoken 0 g s m → Spoken 0 g (spelt_parts ps) m → column_of g < m
+      → take m (spelt_parts ps) ≡ take m s → (g ≡ f) ⊎ (column_of f < column_of g)
+  shared_least f g m r a p q j e =
+      let (o, read, first) = refused_first g m a p q j e in
+      subst (λ (o : TextFault). (g ≡ o) ⊎ (column_of o < column_of g)) (some_same (sym read ∙ r)) first
+
+  shared_refused : (g : TextFault) (m : ℕ) → Among g (refusals asked ns 0 ps) → Spoken 0 g s m → Spoken 0 g (spelt_parts ps) m → column_of g < m → take m (spelt_parts ps) ≡ take m s
+      → reading asked ns 0 s ≡ None → ⊥
+  shared_refused g m a p q j e n = let (o, read, first) = refused_first g m a p q j e in none-some o (sym n ∙ read)
 
 least : (ns : List Need) (s : List ℕ) (f : TextFault) → plain ns ≡ true → reading asked ns 0 s ≡ Some f → Due ns s f → (g : TextFault) → Due ns s g → (g ≡ f) ⊎ (column_of f < column_of g)
 least ns s f h r d (Malformed k) w = wrong_least ns s f k.column d w
@@ -259,5 +266,12 @@ clean ns s h e =
 clean_read : (ns : List Need) (s : List ℕ) → plain ns ≡ true → Clean ns s → reading asked ns 0 s ≡ None
 clean_read ns s h (ps, l, e, c) = ap (reading asked ns 0) e ∙ line_at asked l h 0 ∙ ap (λ (fs : List TextFault). first_of fs None) c
 
+-- nothing is due of it
+nothing_due : (ns : List Need) (s : List ℕ) → plain ns ≡ true → reading asked ns 0 s ≡ None → (f : TextFault) → Due ns s f → ⊥
+nothing_due ns s h n (Malformed k) (within, front, none) = let (ps, l, e, c) = clean ns s h n in none ps l (ap (take (suc k.column)) (sym e))
+nothing_due ns s h n (TooDeep k) (ps, m, l, a, p, q, e) = shared_refused ns s h ps l (TooDeep k) m a p q (omega arith) e n
+nothing_due ns s h n (OutOfRange k) (ps, m, l, a, p, q, e) = shared_refused ns s h ps l (OutOfRange k) m a p q (let j = p.0 in omega arith) e n
+nothing_due ns s h n (Undeclared k) d = d
+
 pub columns : (ns : List Need) (s : List ℕ) → plain ns ≡ true → Columns ns s
-columns ns s h = record { clean = (clean ns s h, clean_read ns s h); reported = λ f r. reported ns s f h r }
+columns ns s h = record { clean = (clean ns s h, clean_read ns s h); nothing_due = nothing_due ns s h; reported = λ f r. reported ns s f h r }

@@ -62,6 +62,8 @@ pub record Reported (ns : List Need) (s : List ℕ) (f : TextFault) : Type 0 whe
 abbrev pub Clean : List Need → List ℕ → Type 0
 Clean ns s = (ps : List Part) × Line ns ps × (s ≡ spelt_parts ps) × (refusals asked ns 0 ps ≡ [])
 
+-- Nothing is due of a line that is not refused, which is just a clean one; and of any other what is reported is.
 pub record Columns (ns : List Need) (s : List ℕ) : Type 0 where
   pub clean : (reading asked ns 0 s ≡ None) ↔ Clean ns s
+  pub nothing_due : reading asked ns 0 s ≡ None → (f : TextFault) → Due ns s f → ⊥
   pub reported : (f : TextFault) → reading asked ns 0 s ≡ Some f → Reported ns s f

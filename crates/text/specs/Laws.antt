@@ -33,4 +33,5 @@ ReadingStands = AnswersOnce × WasWritten
 abbrev pub ReadsBack : Type 0
 ReadsBack = (D : List Change) → Orderly D → (u : ℕ) (c : Change) → write_answer D u c 128 ≡ None
     → (length (text_of D (Command u c)) ≤ 128)
+    × (form_of (text_of D (Command u c)) ≡ command_form)
     × ((o : Result Call TextFault) → Answers D command_form (text_of D (Command u c)) o → o ≡ Ok (Command u c))
