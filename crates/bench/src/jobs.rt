@@ -26,9 +26,13 @@ pub trait Job {
     fn run(&self, turn: u16) -> Tally;
 }
 
-// The first role of a user in both tables.
-fn role_of(user: u16) -> u16 {
-    64 + user % 64 * 7 % 64
+// A user of a table with so many, and his first role.
+fn user_of(step: u16, users: u16) -> u16 {
+    step.checked_rem(users).unwrap_or(0)
+}
+
+fn role_of(user: u16, roles: u16) -> u16 {
+    64u16.saturating_add(user_of(user.saturating_mul(7), roles))
 }
 
 // For every user privilege, the question of each user in his first role. Each is asked by a session
@@ -36,38 +40,41 @@ fn role_of(user: u16) -> u16 {
 #[derive(Drop)]
 pub struct Questions<'a, R> {
     pub table: &'a R,
+    pub users: u16,
 }
 
 // The answer to one question, or the refusal.
-fn ask<R: Reader>(table: &R, user: u16, privilege: u16) -> Result<bool, SessionFault> {
-    ask_once(table, Session::open(user)?, role_of(user), privilege)
+fn ask<R: Reader>(table: &R, user: u16, role: u16, privilege: u16) -> Result<bool, SessionFault> {
+    ask_once(table, Session::open(user)?, role, privilege)
 }
 
 impl<R: Reader> Job for Questions<'_, R> {
     fn run(&self, turn: u16) -> Tally {
         let mut tally = Tally { asked: 0, yes: 0 };
         for privilege in 128..256u16 {
-            for step in 0..64u16 {
-                let user = (step + turn % 64) % 64;
-                tally = tally.with(ask(self.table, user, privilege) == Ok(true));
+            for step in 0..self.users {
+                let user = user_of(step.saturating_add(turn), self.users);
+                let role = role_of(user, self.users);
+                tally = tally.with(ask(self.table, user, role, privilege) == Ok(true));
             }
         }
         tally
     }
 }
 
-// The closure of every user and role; yes where it has role 127.
+// The closure of every user; yes where it has role 64.
 #[derive(Drop)]
 pub struct Closures<'a, R> {
     pub table: &'a R,
+    pub users: u16,
 }
 
 impl<R: Reader> Job for Closures<'_, R> {
     fn run(&self, turn: u16) -> Tally {
         let mut tally = Tally { asked: 0, yes: 0 };
-        for step in 0..128u16 {
-            let vertex = (step + turn % 128) % 128;
-            tally = tally.with(reached(self.table, vertex).has(127));
+        for step in 0..self.users {
+            let user = user_of(step.saturating_add(turn), self.users);
+            tally = tally.with(reached(self.table, user).has(64));
         }
         tally
     }

@@ -44,17 +44,28 @@ fn show_answers<J: Job>(rt: &HostRuntime, name: &str, job: &J) -> io::Result<()>
     println!(rt; "    {name}: {asked} asked, {yes} yes")
 }
 
-fn show<J: Job>(rt: &HostRuntime, show: Shown, name: &str, job: &J) -> io::Result<()> {
-    match show {
+fn show<J: Job>(rt: &HostRuntime, how: Shown, name: &str, job: &J) -> io::Result<()> {
+    match how {
         Shown::Answers => show_answers(rt, name, job),
         Shown::Times => show_times(rt, name, job),
     }
 }
 
-fn reader<R: Reader>(rt: &HostRuntime, how: Shown, name: &str, table: &R) -> io::Result<()> {
+fn reader<R: Reader>(
+    rt: &HostRuntime,
+    how: Shown,
+    name: &str,
+    table: &R,
+    users: u16,
+) -> io::Result<()> {
     println!(rt; "  {name}")?;
-    show(rt, how, "session with one question", &Questions { table })?;
-    show(rt, how, "closure", &Closures { table })
+    show(
+        rt,
+        how,
+        "session with one question",
+        &Questions { table, users },
+    )?;
+    show(rt, how, "closure of a user", &Closures { table, users })
 }
 
 // The bytes of a table's image; none if the buffer is too short.
@@ -79,11 +90,11 @@ fn readers(rt: &HostRuntime, how: Shown, size: Size) -> anyhow::Result<()> {
     fill(&mut pairs, size);
     let edges = rows.count();
     println!(rt; "{edges} edges")?;
-    reader(rt, how, "rows", &rows)?;
-    reader(rt, how, "pairs", &pairs)?;
+    reader(rt, how, "rows", &rows, size.roles)?;
+    reader(rt, how, "pairs", &pairs, size.roles)?;
     let mut buffer = [0u8; 2050];
     match Image::open(image_of(&rows, &mut buffer)) {
-        Ok(image) => reader(rt, how, "image", &image)?,
+        Ok(image) => reader(rt, how, "image", &image, size.roles)?,
         Err(_) => println!(rt; "  no image")?,
     }
     Ok(())

@@ -6,7 +6,7 @@ use terms::edges::Edge;
 // and how many roles have one more.
 #[derive(Clone, Copy)]
 pub struct Size {
-    roles: u16,
+    pub roles: u16,
     memberships: u16,
     cuts: u16,
     cut: u16,

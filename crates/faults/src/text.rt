@@ -13,8 +13,8 @@ pub struct Column {
 }
 
 // Why a line is refused: a byte with which no line can go on, a number out of range, a sign nested too
-// deep, or a privilege that is not declared. A line that is refused with the third or the fourth is
-// well formed so far.
+// deep, or a privilege that is not declared. A line that is refused with any but the first is well
+// formed so far.
 #[derive(Clone, Copy, PartialEq, Eq)]
 pub enum TextFault {
     Malformed(Column),

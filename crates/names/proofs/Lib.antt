@@ -1,2 +1,3 @@
 mod Named
 mod Orders
+pub mod Agreements

@@ -1,3 +1,4 @@
 #![tactic(auto)]
 
+pub mod laws;
 pub mod privileges;

@@ -97,7 +97,6 @@ impl Privileges {
     // Declares the privilege for a change, and tells its number: that of old, if it was declared
     // before. Refused with 2 unless the change is about an edge that has no undeclared privilege in it,
     // then with 7 if it would be nested deeper than 8, and with 8 if there are 128 already.
-
     pub fn declare(&mut self, change: Change) -> Result<u16, CentreFault>
         ensures answer { result ≡ declare_answer self.old change }
         ensures list { self.new ≡ declared_with self.old change }
