@@ -1,5 +1,5 @@
-//! Examples of links, stores, banks, images, sessions, declared privileges and lines, run: what the
-//! contracts say of every case, seen at a few.
+//! Examples of links, stores, banks, images, sessions, declared privileges, rules of precedence and
+//! lines, run: what the contracts say of every case, seen at a few.
 #![tactic(auto)]
 
 #[cfg(test)]
@@ -18,6 +18,8 @@ mod links_run;
 mod names_run;
 #[cfg(test)]
 mod readers_run;
+#[cfg(test)]
+mod rules_run;
 #[cfg(test)]
 mod sessions_run;
 #[cfg(test)]
