@@ -1,6 +1,7 @@
 -- Bits of a number: of a power of two, of two numbers put together, and of what one has beyond another.
 use Rattle.std.proofs.Common.{◌≡◌, ◌≢◌, ℕ, zero, suc, ◌+◌, ◌-◌, ◌/◌, ◌%◌, ◌^◌, ◌<◌, Bool, true, false, not, ◌&&◌, ◌||◌, eqb, bit_and, bit_or, bit_xor, sym, refl, ap, ◌∙◌, subst, arith}
-use Rattle.std.specs.Int.{w64, bit_at, bit_not}
+use mir.Val.{bits}
+use Rattle.std.specs.Int.{Width, w64, bit_at, bit_not}
 use Rattle.std.specs.Int.Count.{count_trailing_zeros}
 use Rattle.std.proofs.lemmas.Nat.Bits.{bit_at-zero, bit_at-lt, bit_at-pow_same, bit_at-pow_other, bit_at_or, bit_at_xor, bit_at_and, bit_at_not, bit_at-trailing_zeros}
 use Rattle.std.proofs.lemmas.Nat.{and_le_l}
@@ -20,7 +21,7 @@ pow_other j k = bit_at-pow_other k j
 pub pow_under : (j k : ℕ) → k < j → 2 ^ k / 2 ^ j % 2 ≡ 0
 pow_under j k l = pow_other j k (λ e. omega arith)
 
-bit_one : (k j : ℕ) → bit (2 ^ k) j ≡ eqb j k
+pub bit_one : (k j : ℕ) → bit (2 ^ k) j ≡ eqb j k
 bit_one k j = grind (arith, nat_tests, bit_at-pow_same k, bit_at-pow_other k j)
 
 pub bit_none : (j : ℕ) → bit 0 j ≡ false
@@ -43,9 +44,9 @@ bit_of_xor a b j h s = by (bit_at a j) (bit_at b j) (bit_at-lt a j) (bit_at-lt b
     by (suc zero) (suc (suc q)) h k d s = absurd (omega arith)
     by (suc (suc p)) q h k d s = absurd (omega arith)
 
--- what a number has beyond another, in 64 bits
-bit_beyond : (a b j : ℕ) → b < 2 ^ 64 → j < 64 → bit (bit_and a (bit_not w64 b)) j ≡ (bit a j && not (bit b j))
-bit_beyond a b j h l = grind (arith, nat_tests, bit_at_and a (bit_not w64 b) j, bit_at_not w64 b j h l, bit_at-lt a j, bit_at-lt b j)
+-- what a number has beyond another, in the bits of a width
+pub bit_beyond : (w : Width) (a b j : ℕ) → b < 2 ^ bits w → j < bits w → bit (bit_and a (bit_not w b)) j ≡ (bit a j && not (bit b j))
+bit_beyond w a b j h l = grind (arith, nat_tests, bit_at_and a (bit_not w b) j, bit_at_not w b j h l, bit_at-lt a j, bit_at-lt b j)
 
 -- a role, by its bit
 pub place_of : (v : ℕ) → is_role v ≡ true → (v - 64 < 64) × (64 + (v - 64) ≡ v)
@@ -79,7 +80,7 @@ has_row s from w row v r =
 
 -- what one set has beyond another
 role_beyond : (a b v : ℕ) → b < 2 ^ 64 → is_beyond a b v ≡ has_role (bit_and a (bit_not w64 b)) v
-role_beyond a b v h = grind (arith, nat_tests, bit_beyond a b (v - 64) h)
+role_beyond a b v h = grind (arith, nat_tests, bit_beyond w64 a b (v - 64) h)
 
 pub none_beyond : (a b : ℕ) → b < 2 ^ 64 → bit_and a (bit_not w64 b) ≡ 0 → (v : ℕ) → is_beyond a b v ≡ false
 none_beyond a b h q v = role_beyond a b v h ∙ ap (λ (n : ℕ). has_role n v) q ∙ has_none v

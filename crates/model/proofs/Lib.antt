@@ -7,3 +7,4 @@ pub mod Tables
 pub mod SetLaws
 pub mod BitRows
 pub mod Rows
+pub mod Steps

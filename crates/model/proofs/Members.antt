@@ -103,47 +103,65 @@ length_delete_most e (d ∷ s) = by (same d e) (length_delete_most e s)
     by true ih = omega arith
     by false ih = omega arith
 
--- only vault edges
-pub vault_insert : (e : Edge) (s : Edges) → vault_edge e ≡ true → all_vault s ≡ true → all_vault (insert e s) ≡ true
-vault_insert e [] h k = rw h
-vault_insert e (d ∷ s) h k = by (same d e) (before e d) (vault_insert e s h p.1)
-  where
-    p : (vault_edge d ≡ true) × (all_vault s ≡ true)
-    p = and_parts (vault_edge d) (all_vault s) k
+-- what all edges of a set pass, where all says so of a set: it stays so with one more that passes and with one less, and each passes
+module _ (test : Edge → Bool) (all : Edges → Bool) (none : all [] ≡ true) (parts : (d : Edge) (s : Edges) → all (d ∷ s) ≡ (test d && all s)) where
+  both : (d : Edge) (s : Edges) → test d ≡ true → all s ≡ true → all (d ∷ s) ≡ true
+  both d s h k = parts d s ∙ and_from (test d) (all s) h k
 
-    by : (b c : Bool) → all_vault (insert e s) ≡ true → all_vault (cond b (d ∷ s) (cond c (e ∷ d ∷ s) (d ∷ insert e s))) ≡ true
-    by true c ih = k
-    by false true ih = rw h k
-    by false false ih = rw p.0 ih
+  each : (d : Edge) (s : Edges) → all (d ∷ s) ≡ true → (test d ≡ true) × (all s ≡ true)
+  each d s k = and_parts (test d) (all s) (sym (parts d s) ∙ k)
+
+  all_insert : (e : Edge) (s : Edges) → test e ≡ true → all s ≡ true → all (insert e s) ≡ true
+  all_insert e [] h k = both e [] h none
+  all_insert e (d ∷ s) h k = by (same d e) (before e d) (all_insert e s h p.1)
+    where
+      p : (test d ≡ true) × (all s ≡ true)
+      p = each d s k
+
+      by : (b c : Bool) → all (insert e s) ≡ true → all (cond b (d ∷ s) (cond c (e ∷ d ∷ s) (d ∷ insert e s))) ≡ true
+      by true c ih = k
+      by false true ih = both e (d ∷ s) h k
+      by false false ih = both d (insert e s) p.0 ih
+
+  all_delete : (e : Edge) (s : Edges) → all s ≡ true → all (delete e s) ≡ true
+  all_delete e [] k = none
+  all_delete e (d ∷ s) k = by (same d e) (all_delete e s p.1)
+    where
+      p : (test d ≡ true) × (all s ≡ true)
+      p = each d s k
+
+      by : (b : Bool) → all (delete e s) ≡ true → all (cond b (delete e s) (d ∷ delete e s)) ≡ true
+      by true ih = ih
+      by false ih = both d (delete e s) p.0 ih
+
+  all_member : (e : Edge) (s : Edges) → all s ≡ true → e ∈ s → test e ≡ true
+  all_member e [] k h = absurd (false≢true h)
+  all_member e (d ∷ s) k h =
+      let p = each d s k in
+      ⊎_elim
+      (λ (q : same d e ≡ true). subst (λ (x : Edge). test x ≡ true) (same_equal d e q) p.0)
+      (λ (q : e ∈ s). all_member e s p.1 q)
+      (or_cases (same d e) (has s e) h)
+
+-- sets of vault edges
+pub vault_insert : (e : Edge) (s : Edges) → vault_edge e ≡ true → all_vault s ≡ true → all_vault (insert e s) ≡ true
+vault_insert = all_insert vault_edge all_vault refl (λ d s. refl)
 
 pub vault_delete : (e : Edge) (s : Edges) → all_vault s ≡ true → all_vault (delete e s) ≡ true
-vault_delete e [] k = refl
-vault_delete e (d ∷ s) k = by (same d e) (vault_delete e s p.1)
-  where
-    p : (vault_edge d ≡ true) × (all_vault s ≡ true)
-    p = and_parts (vault_edge d) (all_vault s) k
+vault_delete = all_delete vault_edge all_vault refl (λ d s. refl)
 
-    by : (b : Bool) → all_vault (delete e s) ≡ true → all_vault (cond b (delete e s) (d ∷ delete e s)) ≡ true
-    by true ih = ih
-    by false ih = rw p.0 ih
-
--- what all edges of a set pass, where all says so of a set, each of them passes
-all_member : (test : Edge → Bool) (all : Edges → Bool) → ((d : Edge) (s : Edges) → all (d ∷ s) ≡ (test d && all s)) → (e : Edge) (s : Edges) → all s ≡ true → e ∈ s → test e ≡ true
-all_member test all parts e [] k h = absurd (false≢true h)
-all_member test all parts e (d ∷ s) k h =
-    let p = and_parts (test d) (all s) (sym (parts d s) ∙ k) in
-    ⊎_elim
-    (λ (q : same d e ≡ true). subst (λ (x : Edge). test x ≡ true) (same_equal d e q) p.0)
-    (λ (q : e ∈ s). all_member test all parts e s p.1 q)
-    (or_cases (same d e) (has s e) h)
-
--- a set of vault edges has no other edge
 pub vault_member : (e : Edge) (s : Edges) → all_vault s ≡ true → e ∈ s → vault_edge e ≡ true
-vault_member = all_member vault_edge all_vault (λ d s. refl)
+vault_member = all_member vault_edge all_vault refl (λ d s. refl)
 
--- nor has a set of edges any other pair
+-- sets of edges
+pub edge_insert : (e : Edge) (s : Edges) → is_edge e ≡ true → all_edges s ≡ true → all_edges (insert e s) ≡ true
+edge_insert = all_insert is_edge all_edges refl (λ d s. refl)
+
+pub edge_delete : (e : Edge) (s : Edges) → all_edges s ≡ true → all_edges (delete e s) ≡ true
+edge_delete = all_delete is_edge all_edges refl (λ d s. refl)
+
 pub edge_member : (e : Edge) (s : Edges) → all_edges s ≡ true → e ∈ s → is_edge e ≡ true
-edge_member = all_member is_edge all_edges (λ d s. refl)
+edge_member = all_member is_edge all_edges refl (λ d s. refl)
 
 pub vault_edges : (s : Edges) → all_vault s ≡ true → all_edges s ≡ true
 vault_edges [] k = refl

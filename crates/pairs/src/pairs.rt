@@ -36,7 +36,7 @@ impl Pairs {
 
     // Puts an edge that is absent into its place. That it is a vault edge is known at the one call of
     // this; a type for such edges would carry it over one line.
-    #[tactic(auto, using(crate::proofs::Steps::entered, crate::proofs::Steps::entered_ascends, crate::proofs::Steps::entered_vault))]
+    #[tactic(auto, using(model::proofs::Steps::entered, model::proofs::Steps::entered_ascends, model::proofs::Steps::entered_vault))]
     fn enter(&mut self, at: usize, edge: Edge)
         requires vault { vault_edge edge ≡ true }
         requires absent { Absent edge (pairs_edges self.old) at }
@@ -48,7 +48,7 @@ impl Pairs {
     }
 
     // Takes the edge out that stands at a place.
-    #[tactic(auto, using(crate::proofs::Steps::struck, crate::proofs::Steps::struck_ascends, crate::proofs::Steps::struck_vault))]
+    #[tactic(auto, using(model::proofs::Steps::struck, model::proofs::Steps::struck_ascends, model::proofs::Steps::struck_vault))]
     fn strike_out(&mut self, at: usize, edge: Edge)
         requires { Found edge (pairs_edges self.old) at }
         ensures edges { pairs_edges self.new ≡ delete edge (pairs_edges self.old) }
