@@ -130,12 +130,12 @@ pub reaches_role : (s : Edges) (a b r : ℕ) → is_role b ≡ true → ReachesR
 reaches_role s a b r h c = same_from_decides (has_role r b) (reaches s a b) (c b h) (paths_decided s a b)
 
 -- the last edge of a path to anything but a role leaves a role
-last_edge : (s : Edges) {a b : ℕ} → Reach s a b → (a ≡ b) ⊎ ((x : ℕ) × Reach s a x × (edge x b ∈ s))
+pub last_edge : (s : Edges) {a b : ℕ} → Reach s a b → (a ≡ b) ⊎ ((x : ℕ) × Reach s a x × (edge x b ∈ s))
 last_edge s here = inl refl
 last_edge s (step {x = x} {z = z} e p) =
     ⊎_elim (λ q. inr (x, here, subst (λ (n : ℕ). edge x n ∈ s) q e)) (λ y. inr (y.0, step e y.1, y.2)) (last_edge s p)
 
-leaves_role : (s : Edges) → all_edges s ≡ true → (x b : ℕ) → is_role b ≡ false → edge x b ∈ s → (64 ≤ x) × (x < 128)
+pub leaves_role : (s : Edges) → all_edges s ≡ true → (x b : ℕ) → is_role b ≡ false → edge x b ∈ s → (64 ≤ x) × (x < 128)
 leaves_role s f x b h e = let i : is_edge (edge x b) ≡ true = edge_member (edge x b) s f e in (grind (arith, nat_tests), grind (arith, nat_tests))
 
 -- a number of a range that passes a test

@@ -1,4 +1,6 @@
-ghost use Rattle.std.specs.Prelude.{◌≡◌};
+ghost use Rattle.std.specs.Prelude.{◌≡◌, ℕ, true};
+ghost use Rattle.terms.specs.Graph.{is_role};
+ghost use Rattle.model.specs.BitRows.{has_role};
 ghost use Rattle.meaning.specs.Paths.{reaches};
 ghost use Rattle.graph.specs.Searches.{Closure, Begins, ReachesRoles, edge_from};
 
@@ -64,4 +66,17 @@ pub fn reaches<G: Graph>(graph: &G, from: u16, to: u16) -> bool
     ensures { result ≡ reaches (G.edges graph.now) from to }
 {
     is_reached(graph, from, reached(graph, from), to)
+}
+
+// The roles that reach a vertex.
+pub fn leading<G: Graph>(graph: &G, to: u16) -> Roles
+    ensures { (x : ℕ) → is_role x ≡ true → has_role result.word x ≡ reaches (G.edges graph.now) x to }
+{
+    let mut roles = Roles::none();
+    for role in 64..128u16 {
+        if reaches(graph, role, to) {
+            roles = roles.with(role);
+        }
+    }
+    roles
 }

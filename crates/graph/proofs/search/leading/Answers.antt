@@ -1,0 +1,14 @@
+use Rattle.std.proofs.Common.{◌≡◌, true, arith}
+use Rattle.std.proofs.lemmas.Bool.Decides.{nat_tests}
+use Rattle.terms.specs.Graph.{is_role}
+use Rattle.model.proofs.BitRows.{has_with}
+use Rattle.graph.proofs.search.leading.Goals as goal
+use Rattle.graph.proofs.search.leading.Goals.{then-reaches, else-reaches}
+
+pub loop-role-preserved : goal.loop-role-preserved
+loop-role-preserved g c =
+    let role : is_role c.loop-role.role ≡ true = grind (arith, nat_tests) in
+    elim c.if-reaches.branch [
+      | then-reaches w ↦ rw (w.roles-is, w.with-roles.ensures) (λ x r. grind (arith, nat_tests, has_with c.loop-role.roles.word c.loop-role.role x role, c.loop-role.invariant x r, w.if-reaches.ensures))
+      | else-reaches w ↦ rw w.roles-is (λ x r. grind (arith, nat_tests, c.loop-role.invariant x r, w.if-reaches.ensures))
+    ]
