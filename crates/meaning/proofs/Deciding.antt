@@ -39,10 +39,10 @@ over_parts true false r = refl
 over_parts false true r = refl
 over_parts false false r = refl
 
-abbrev HoldsOver : (Change → Bool) → Edges → ℕ → ℕ → List Change → Type 0
+abbrev pub HoldsOver : (Change → Bool) → Edges → ℕ → ℕ → List Change → Type 0
 HoldsOver stands s u k D = (i : ℕ) × (d : Change) × (slice_get D i ≡ Some d) × Reach s u (i + k) × (stands d ≡ true)
 
-over_decides : (stands : Change → Bool) (s : Edges) (u k : ℕ) (D : List Change) → Decides (reaches_over stands s u k D) (HoldsOver stands s u k D)
+pub over_decides : (stands : Change → Bool) (s : Edges) (u k : ℕ) (D : List Change) → Decides (reaches_over stands s u k D) (HoldsOver stands s u k D)
 over_decides stands s u k [] = (λ h. absurd (false≢true h), λ h. absurd (some_none h.2))
 over_decides stands s u k (d ∷ D) =
     decides_by _ _ (over_parts (stands d) (reaches s u k) (reaches_over stands s u (suc k) D))
@@ -73,7 +73,7 @@ authorised_decides rule w u c = decides_iff _ (to, from) (over_decides stands w.
     from h = (h.3.0, h.1, h.3.2, subst (λ (n : ℕ). Reach w.policy u n) h.3.1 h.2, h.4)
 
 -- the edges due
-kept_has : (f : Edge → Bool) (s : Edges) (x : Edge) → Decides (has (filter f s) x) ((x ∈ s) × (f x ≡ true))
+pub kept_has : (f : Edge → Bool) (s : Edges) (x : Edge) → Decides (has (filter f s) x) ((x ∈ s) × (f x ≡ true))
 kept_has f [] x = (λ h. absurd (false≢true h), λ p. p.0)
 kept_has f (e ∷ s) x = by (f e) refl (kept_has f s x)
   where
@@ -92,7 +92,7 @@ kept_has f (e ∷ s) x = by (f e) refl (kept_has f s x)
       λ p. ⊎_elim (λ (k : same e x ≡ true). absurd (both_ways (f x) (moved false k q) p.1)) (λ (k : x ∈ s). ih.1 (k, p.1)) (or_cases (same e x) (has s x) p.0),
     )
 
-cons_kept : (f : Edge → Bool) (d : Edge) (s : Edges) → Ascending (d ∷ s) → Ascending (d ∷ filter f s)
+pub cons_kept : (f : Edge → Bool) (d : Edge) (s : Edges) → Ascending (d ∷ s) → Ascending (d ∷ filter f s)
 cons_kept f d [] h = refl
 cons_kept f d (x ∷ s) h = by (f x) (cons_kept f d s (asc_skip d x s h)) (cons_kept f x s (asc_tail d (x ∷ s) h))
   where
@@ -100,7 +100,7 @@ cons_kept f d (x ∷ s) h = by (f x) (cons_kept f d s (asc_skip d x s h)) (cons_
     by true i j = asc_cons d x (filter f s) (asc_step d x s h).0 j
     by false i j = i
 
-kept_ascending : (f : Edge → Bool) (s : Edges) → Ascending s → Ascending (filter f s)
+pub kept_ascending : (f : Edge → Bool) (s : Edges) → Ascending s → Ascending (filter f s)
 kept_ascending f [] h = refl
 kept_ascending f (x ∷ s) h = by (f x) (kept_ascending f s (asc_tail x s h)) (cons_kept f x s h)
   where
@@ -112,10 +112,10 @@ concerns_parts : (p q r : Bool) → elim p [ true ↦ q || r | false ↦ r ] ≡
 concerns_parts true q r = refl
 concerns_parts false q r = refl
 
-abbrev Below : Edges → (ℕ → Bool) → ℕ → ℕ → Type 0
+abbrev pub Below : Edges → (ℕ → Bool) → ℕ → ℕ → Type 0
 Below s kept w n = (p : ℕ) × (p < n) × (kept p ≡ true) × Reach s w p
 
-concerns_decides : (s : Edges) (kept : ℕ → Bool) (w n : ℕ) → Decides (concerns s kept w n) (Below s kept w n)
+pub concerns_decides : (s : Edges) (kept : ℕ → Bool) (w n : ℕ) → Decides (concerns s kept w n) (Below s kept w n)
 concerns_decides s kept w zero = (λ h. absurd (false≢true h), λ h. absurd (omega arith))
 concerns_decides s kept w (suc n) =
     decides_by _ _ (concerns_parts (kept n) (reaches s w n) (concerns s kept w n))
@@ -134,7 +134,7 @@ concerns_decides s kept w (suc n) =
 abbrev pub Keeps : Vault → Type 0
 Keeps v = (p : ℕ) → v.kept p ≡ true → UserPrivilege p
 
-due_lists : (s : Edges) (e : Edge) (v : Vault) → Ascending s → Keeps v → Lists (due s e v) (Due s e v)
+pub due_lists : (s : Edges) (e : Edge) (v : Vault) → Ascending s → Keeps v → Lists (due s e v) (Due s e v)
 due_lists s e v asc keeps = by (concerns s v.kept e.to 256) refl
   where
     R : Decides (concerns s v.kept e.to 256) (Below s v.kept e.to 256)
@@ -199,7 +199,7 @@ plan_unique s c (v ∷ vs) (ms ∷ mss) (ns ∷ nss) p q =
     let b : mss ≡ nss = plan_unique s c vs mss nss p.1 q.1 in
     cc
 
-planned_unique : (w : Installation) (o : Option Change) (mss nss : List (List Change)) → Planned w o mss → Planned w o nss → mss ≡ nss
+pub planned_unique : (w : Installation) (o : Option Change) (mss nss : List (List Change)) → Planned w o mss → Planned w o nss → mss ≡ nss
 planned_unique w None mss nss p q = p ∙ sym q
 planned_unique w (Some c) mss nss p q = plan_unique w.policy c w.vaults mss nss p q
 
