@@ -1,3 +1,4 @@
 pub mod Sites
 pub mod Loads
 pub mod Fitness
+pub mod Tables
