@@ -28,3 +28,11 @@ pub struct CallRecord {
     pub call: Call,
     pub answer: Result<u16, CentreFault>,
 }
+
+// A command of a work list and its answer.
+#[derive(Clone, Copy)]
+pub struct CommandRecord {
+    pub user: u16,
+    pub change: Change,
+    pub answer: Result<(), CentreFault>,
+}

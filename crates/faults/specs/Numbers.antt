@@ -20,8 +20,13 @@ use Rattle.faults.specs.declared.centre.CentreFault.{CentreFault}
 use Rattle.faults.specs.declared.text.Column.{Column}
 use Rattle.faults.specs.declared.text.TextFault as text
 use Rattle.faults.specs.declared.text.TextFault.{TextFault}
+use Rattle.faults.specs.declared.script.ScriptFault as script
+use Rattle.faults.specs.declared.script.ScriptFault.{ScriptFault}
 use Rattle.faults.specs.declared.line.LineFault as line
 use Rattle.faults.specs.declared.line.LineFault.{LineFault}
+use Rattle.faults.specs.declared.work.RecordPlace.{RecordPlace}
+use Rattle.faults.specs.declared.work.WorkFault as work
+use Rattle.faults.specs.declared.work.WorkFault.{WorkFault}
 
 abbrev pub link_number : LinkFault → ℕ
 link_number link.TheVariants.NoVaultEdge = 2
@@ -122,7 +127,25 @@ text_place (text.TheVariants.OutOfRange k) = k
 text_place (text.TheVariants.TooDeep k) = k
 text_place (text.TheVariants.Undeclared k) = k
 
+abbrev pub script_number : ScriptFault → ℕ
+script_number (script.TheVariants.Text f) = text_number f
+script_number (script.TheVariants.Centre f) = centre_number f
+
+abbrev pub script_layer : ScriptFault → Layer
+script_layer (script.TheVariants.Text f) = layer.TheVariants.Text
+script_layer (script.TheVariants.Centre f) = centre_layer f
+
 abbrev pub line_number : LineFault → ℕ
 line_number line.TheVariants.NoUser = 1
 line_number line.TheVariants.NoEdge = 2
 line_number line.TheVariants.NoRoom = 21
+
+abbrev pub work_number : WorkFault → ℕ
+work_number (work.TheVariants.Command r f) = centre_number f
+
+abbrev pub work_layer : WorkFault → Layer
+work_layer (work.TheVariants.Command r f) = centre_layer f
+
+-- the record that a refusal is about
+abbrev pub work_place : WorkFault → RecordPlace
+work_place (work.TheVariants.Command r f) = r

@@ -8,6 +8,8 @@ pub mod layers;
 pub mod line;
 pub mod link;
 pub mod refusal;
+pub mod script;
 pub mod session;
 pub mod store;
 pub mod text;
+pub mod work;
