@@ -1,0 +1,16 @@
+use Rattle.std.proofs.Common.{not, ◌&&◌, List, length, ap, ◌∙◌, arith}
+use Rattle.std.specs.List.{filter, zip}
+use Rattle.model.specs.EdgeSets.{Edges}
+use Rattle.books.specs.declared.vault_set.VaultSet.{VaultSet}
+use Rattle.books.specs.VaultSets.{has_vault}
+use Rattle.books.specs.Additions.{rises}
+use Rattle.books.proofs.Counts.{count_due}
+use Rattle.books.proofs.policy.Policy.due_count.Goals as goal
+
+pub returns-clause-count : goal.returns-clause-count
+returns-clause-count c =
+    let p = c.args.self.now in
+    let a = c.args.addition.now in
+    let n = λ (s : Edges) (ms : List VaultSet). length (filter (λ q. rises a q.0 && not (has_vault q.1 c.args.vault)) (zip s ms)) in
+    c.due.ensures.count ∙ ap (λ (s : Edges). n s c.deref-2.result.now) c.deref.ensures.value ∙ ap (n p.edges.items) c.deref-2.ensures.value
+    ∙ count_due a p.edges.items p.told.items c.args.vault (omega arith) p.sorted

@@ -1,0 +1,6 @@
+pub mod VaultSets
+pub mod Keepings
+pub mod Ledgers
+pub mod Books
+pub mod Additions
+pub mod Rights

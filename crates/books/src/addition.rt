@@ -1,0 +1,61 @@
+ghost use Rattle.std.specs.Prelude.{◌≡◌, ℕ, true};
+ghost use Rattle.terms.specs.Graph.{is_role};
+ghost use Rattle.model.specs.BitRows.{has_role};
+ghost use Rattle.meaning.specs.Paths.{reaches};
+ghost use Rattle.meaning.specs.Sending.{concerns};
+ghost use Rattle.books.specs.VaultSets.{has_vault};
+ghost use Rattle.books.specs.Books.{policy_edges};
+ghost use Rattle.books.specs.Keepings.{keeps};
+
+use crate::keeping::Keeping;
+use crate::policy::Policy;
+use crate::vault_set::VaultSet;
+use graph::search::{leading, reached};
+use model::roles::Roles;
+use terms::edges::Edge;
+
+// An edge that is to be added, with what is found out about it first: the roles that lead to where it
+// comes from, and the vaults that it concerns.
+#[derive(Clone, Copy)]
+pub struct Addition {
+    pub edge: Edge,
+    pub behind: Roles,
+    pub concerned: VaultSet,
+}
+
+// The vaults that keep a privilege which a vertex reaches.
+fn concerned(policy: &Policy, keeping: &Keeping, vertex: u16) -> VaultSet
+    ensures { (k : ℕ) → has_vault result k ≡ concerns (policy_edges policy.now) (keeps keeping.now k) vertex 256 }
+{
+    let roles = reached(policy, vertex);
+    let mut vaults = keeping.of(vertex);
+    for edge in policy.edges() {
+        if roles.has(edge.from) {
+            vaults = vaults.union(keeping.of(edge.to));
+        }
+    }
+    vaults
+}
+
+impl Addition {
+    ghost use Rattle.books.specs.Additions.{rises};
+
+    pub fn new(policy: &Policy, keeping: &Keeping, edge: Edge) -> Addition
+        ensures edge { result.edge ≡ edge }
+        ensures behind { (x : ℕ) → is_role x ≡ true → has_role result.behind.word x ≡ reaches (policy_edges policy.now) x edge.from }
+        ensures concerned { (k : ℕ) → has_vault result.concerned k ≡ concerns (policy_edges policy.now) (keeps keeping.now k) edge.to 256 }
+    {
+        Addition {
+            edge,
+            behind: leading(policy, edge.from),
+            concerned: concerned(policy, keeping, edge.to),
+        }
+    }
+
+    // Whether an edge is the new one, or leads to where that comes from.
+    pub fn rises(&self, edge: Edge) -> bool
+        ensures { result ≡ rises self.now edge }
+    {
+        self.edge == edge || self.behind.has(edge.to)
+    }
+}

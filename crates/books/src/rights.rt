@@ -1,0 +1,56 @@
+ghost use Rattle.std.specs.Prelude.{◌≡◌, true};
+ghost use Rattle.std.specs.List.{list_any};
+ghost use Rattle.terms.specs.Graph.{is_user};
+ghost use Rattle.meaning.specs.Questions.{reaches_over};
+ghost use Rattle.books.specs.Books.{policy_edges};
+ghost use Rattle.books.specs.Rights.{stands_at, leads_to};
+
+use crate::policy::Policy;
+use graph::search::reached;
+use model::roles::Roles;
+use names::privileges::Privileges;
+use precedence::precedence::Precedence;
+use terms::edges::Change;
+
+// Whether a vertex is a declared privilege that stands over a change.
+fn stands<R: Precedence>(
+    rule: &R,
+    names: &Privileges,
+    policy: &Policy,
+    vertex: u16,
+    wanted: Change,
+) -> bool
+    ensures { result ≡ stands_at (λ d. R.over rule.now names.now (policy_edges policy.now) d wanted) names.now vertex }
+{
+    match names.get(vertex) {
+        Some(held) => rule.stands(names, policy, held, wanted),
+        None => false,
+    }
+}
+
+// Whether one of some roles has an edge to a declared privilege that stands over a change.
+fn have_right<R: Precedence>(
+    rule: &R,
+    names: &Privileges,
+    policy: &Policy,
+    roles: Roles,
+    wanted: Change,
+) -> bool
+    ensures { result ≡ list_any (leads_to roles.word (stands_at (λ d. R.over rule.now names.now (policy_edges policy.now) d wanted) names.now)) (policy_edges policy.now) }
+{
+    let edges = policy.edges();
+    edges.iter().any(|edge| roles.has(edge.from) && stands(rule, names, policy, edge.to, wanted))
+}
+
+// Whether a user reaches a declared privilege that the rule puts over a change.
+pub fn is_authorised<R: Precedence>(
+    rule: &R,
+    names: &Privileges,
+    policy: &Policy,
+    user: u16,
+    wanted: Change,
+) -> bool
+    ensures { is_user user ≡ true → result ≡ reaches_over (λ d. R.over rule.now names.now (policy_edges policy.now) d wanted) (policy_edges policy.now) user 256 names.now }
+{
+    have_right(rule, names, policy, reached(policy, user), wanted)
+}
