@@ -1,0 +1,11 @@
+pub mod Working
+pub mod Shorts
+pub mod Told
+pub mod Batches
+pub mod Announcing
+pub mod Turns
+pub mod Changing
+pub mod Visits
+pub mod Endings
+pub mod Runs
+pub mod Stages

@@ -1,0 +1,13 @@
+use Rattle.std.proofs.Common.{refl}
+use Rattle.meaning.specs.Installation.{seating}
+use Rattle.centre.specs.Offices.{held}
+use Rattle.centre.proofs.Stages.{brought_on, does}
+use Rattle.centre.proofs.seating.Seating.deliver.Goals as goal
+
+pub invariant_of-self : goal.invariant_of-self
+invariant_of-self g c =
+    brought_on g.R.Precedence.over seating seating (held c.self.inside.office) (held c.deliver.new.self) _ _ c.self.invariant (c.deliver.ensures.ends seating refl) c.deliver.ensures.rule
+
+pub returns : goal.returns
+returns g c =
+    does g.R.Precedence.over seating (held c.self.inside.office) c.args.self.now (held c.deliver.new.self) _ _ c.self.invariant c.self.view_is (c.deliver.ensures.ends seating refl) c.deliver.ensures.rule

@@ -1,0 +1,13 @@
+use Rattle.std.proofs.Common.{refl}
+use Rattle.meaning.specs.Installation.{service}
+use Rattle.centre.specs.Offices.{held}
+use Rattle.centre.proofs.Stages.{brought_on, does}
+use Rattle.centre.proofs.service.Service.apply.Goals as goal
+
+pub invariant_of-self : goal.invariant_of-self
+invariant_of-self g c =
+    brought_on g.R.Precedence.over service service (held c.self.inside.office) (held c.apply.new.self) _ _ c.self.invariant (c.apply.ensures.ends service refl) c.apply.ensures.rule
+
+pub returns : goal.returns
+returns g c =
+    does g.R.Precedence.over service (held c.self.inside.office) c.args.self.now (held c.apply.new.self) _ _ c.self.invariant c.self.view_is (c.apply.ensures.ends service refl) c.apply.ensures.rule

@@ -1,0 +1,10 @@
+pub mod Worked
+pub mod Holding
+pub mod Asked
+pub mod Room
+pub mod Sayings
+pub mod Sendings
+pub mod Heads
+pub mod Offices
+pub mod Promises
+pub mod Installed
