@@ -1,0 +1,45 @@
+ghost use Rattle.std.specs.Prelude.{◌≡◌};
+ghost use Rattle.grants.specs.Granting.{gives, granting, granting_lawful};
+
+use graph::graph::Graph;
+use graph::search::reaches;
+use names::privileges::Privileges;
+use precedence::precedence::Precedence;
+use terms::edges::Change;
+use terms::kinds::Kind;
+
+// A rule of one's own: who may give a role a user privilege may give it to any role that reaches that
+// role.
+#[derive(Clone, Copy)]
+pub struct Grants;
+
+fn gives<G: Graph>(policy: &G, held: Change, wanted: Change) -> bool
+    ensures { result ≡ gives (G.edges policy.now) held wanted }
+{
+    match (held, wanted) {
+        (Change::Add(held), Change::Add(wanted)) => {
+            Kind::Role.has(held.from)
+                && Kind::Role.has(wanted.from)
+                && Kind::UserPrivilege.has(held.to)
+                && held.to == wanted.to
+                && reaches(policy, wanted.from, held.from)
+        }
+        _ => false,
+    }
+}
+
+impl Precedence for Grants {
+    ghost over = { λ _. granting };
+
+    ghost lawful = { λ _. granting_lawful };
+
+    fn stands<G: Graph>(
+        &self,
+        _privileges: &Privileges,
+        policy: &G,
+        held: Change,
+        wanted: Change,
+    ) -> bool {
+        held == wanted || gives(policy, held, wanted)
+    }
+}
