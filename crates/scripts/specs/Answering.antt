@@ -1,0 +1,59 @@
+-- What a line of a script is answered, and what it leaves.
+use Rattle.std.specs.Prelude.{◌≡◌, ℕ, Bool, true, false, cond, List, [], ◌∷◌, Ok, Err, Result}
+use Rattle.faults.specs.declared.text.TextFault.{TextFault}
+use Rattle.faults.specs.declared.script.ScriptFault.{ScriptFault}
+use Rattle.faults.specs.declared.script.ScriptFault.TheVariants.{Text, Centre}
+use Rattle.calls.specs.declared.call.Call.{Call}
+use Rattle.calls.specs.declared.call.Call.TheVariants.{Declare, Keep, EndNaming, Seat, Open, Command, Apply, Deliver}
+use Rattle.calls.specs.declared.call.CallRecord.{CallRecord}
+use Rattle.meaning.specs.Precedence.{Rule}
+use Rattle.meaning.specs.Installation.{Stage}
+use Rattle.meaning.specs.Questions.{in_naming}
+use Rattle.meaning.specs.Outcomes.{Answer}
+use Rattle.meaning.specs.Runs.{recorded, Run}
+use Rattle.text.specs.Forms.{form_of, Refused, Said}
+use Rattle.centre.specs.declared.installation.Installation.{Installation}
+use Rattle.centre.specs.Installed.{state, rule_of}
+
+-- an answer without its number
+abbrev pub line_answer : Answer → Result (Unit {0}) ScriptFault
+line_answer (Ok n) = Ok tt
+line_answer (Err f) = Err (Centre f)
+
+-- the calls with which naming is over
+abbrev pub is_past_naming : Call → Bool
+is_past_naming (Declare c) = false
+is_past_naming (Keep v p) = false
+is_past_naming EndNaming = false
+is_past_naming (Seat e) = true
+is_past_naming Open = true
+is_past_naming (Command u c) = false
+is_past_naming (Apply v) = false
+is_past_naming (Deliver v) = false
+
+-- while naming, the end of naming, and it is accepted
+abbrev pub ended : Stage → List CallRecord → List CallRecord
+ended t h = cond (in_naming t) (recorded EndNaming (Ok 0) ∷ h) h
+
+-- what a line that says a call gives: first the end of naming, where the call brings it, and then the call
+abbrev pub given : Stage → Call → Answer → List CallRecord
+given t c a = cond (is_past_naming c) (ended t (recorded c a ∷ [])) (recorded c a ∷ [])
+
+module _ {B R : Type 0} (over : R → Rule) (at : Installation B R) where
+  -- from one installation to another by these calls, and the rule stays
+  pub record RunBy (h : List CallRecord) (next : Installation B R) : Type 0 where
+    pub run : Run (over (rule_of at)) (state at) h (state next)
+    pub rule : rule_of next ≡ rule_of at
+
+  -- naming is over
+  abbrev pub Passed : Installation B R → Type 0
+  Passed next = RunBy (ended (state at).stage []) next
+
+  abbrev pub Carried : Call → Answer → Installation B R → Type 0
+  Carried c a next = RunBy (given (state at).stage c a) next
+
+  -- A line that cannot be read is refused and alters nothing; one that says a call is answered as that call.
+  pub data Answered (line : List ℕ) : Result (Unit {0}) ScriptFault → Installation B R → Type 0 where
+    unread : {f : TextFault} → Refused (state at).declared (form_of line) line f → Answered line (Err (Text f)) at
+    carried : {c : Call} (a : Answer) {next : Installation B R} → Said (state at).declared (form_of line) line c → Carried c a next
+        → Answered line (line_answer a) next

@@ -1,0 +1,5 @@
+#![tactic(auto)]
+
+pub mod front;
+pub mod line;
+pub mod shown;
