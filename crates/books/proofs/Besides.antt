@@ -5,9 +5,9 @@ use Rattle.std.proofs.lemmas.List.{get_or_default}
 use Rattle.std.proofs.lemmas.Bool.{or_parts, or_left, or_right}
 use Rattle.std.proofs.lemmas.Bool.Decides.{nat_tests}
 use Rattle.terms.specs.declared.edges.Edge.{Edge}
-use Rattle.terms.specs.Graph.{same}
-use Rattle.model.specs.EdgeSets.{Edges, Ascending, ◌∈◌, ◌∉◌, has, no_edge, Found, Absent}
-use Rattle.model.proofs.Members.{delete_gone}
+use Rattle.terms.specs.Graph.{same, is_edge}
+use Rattle.model.specs.EdgeSets.{Edges, Ascending, ◌∈◌, ◌∉◌, has, all_edges, no_edge, Found, Absent}
+use Rattle.model.proofs.Members.{delete_gone, edge_member}
 use Rattle.model.proofs.Order.{same_refl, same_equal, before_differs}
 use Rattle.model.proofs.Ascents.{asc_tail, asc_first}
 use Rattle.model.proofs.Steps.{entered, entered_ascends, entered_edges, struck, struck_ascends, struck_edges}
@@ -151,7 +151,11 @@ module _ (e : Edge) (s t : Edges) (ms us : List VaultSet) (i : ℕ) (q : length 
   pub told_found : Ascending s → Found e s i → (m : VaultSet) → m ≡ get_or ms i m → beside s ms e ≡ m
   told_found up f m is = subst (λ (x : Edge). beside s ms x ≡ m) f.is (beside_here s ms i m q up f.within is)
 
+-- what is found among edges is one
+pub found_edge : (e : Edge) (s : Edges) (i : ℕ) → all_edges s ≡ true → Found e s i → is_edge e ≡ true
+found_edge e s i f h = edge_member e s f h.held
+
 -- what puts an edge in and takes one out
 pub ruleset put_in = (entered, entered_ascends, entered_edges, told_entered)
 
-pub ruleset taken_out = (struck, struck_ascends, struck_edges, told_struck, told_found)
+pub ruleset taken_out = (found_edge, struck, struck_ascends, struck_edges, told_struck, told_found)

@@ -95,7 +95,7 @@ module _ (stands : Change → Bool) (D : List Change) (p : ℕ) where
   named_stands : (d : Change) → Names D p d → stands d ≡ true → stands_at stands D p ≡ true
   named_stands d m h = rw (names_named D p d m, stands_at) h
 
-  low_stands : p < 256 → stands_at stands D p ≡ false
+  pub low_stands : p < 256 → stands_at stands D p ≡ false
   low_stands l = grind (arith, nat_tests)
 
 -- whether a user reaches a privilege that stands over

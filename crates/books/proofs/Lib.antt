@@ -1,5 +1,6 @@
 pub mod VaultBits
 pub mod Kept
+pub mod Onwards
 pub mod Besides
 pub mod Counts
 pub mod Ends

@@ -4,3 +4,4 @@ pub mod Ledgers
 pub mod Books
 pub mod Additions
 pub mod Rights
+pub mod Onwards

@@ -10,7 +10,8 @@ ghost use Rattle.books.specs.Keepings.{keeps};
 use crate::keeping::Keeping;
 use crate::policy::Policy;
 use crate::vault_set::VaultSet;
-use graph::search::{leading, reached};
+use graph::graph::Paths;
+use graph::search::leading;
 use model::roles::Roles;
 use terms::edges::Edge;
 
@@ -27,7 +28,7 @@ pub struct Addition {
 fn concerned(policy: &Policy, keeping: &Keeping, vertex: u16) -> VaultSet
     ensures { (k : ℕ) → has_vault result k ≡ concerns (policy_edges policy.now) (keeps keeping.now k) vertex 256 }
 {
-    let roles = reached(policy, vertex);
+    let roles = policy.reached(vertex);
     let mut vaults = keeping.of(vertex);
     for edge in policy.edges() {
         if roles.has(edge.from) {

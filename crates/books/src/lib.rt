@@ -1,7 +1,9 @@
 #![tactic(auto)]
 
 pub mod addition;
+pub mod edge_list;
 pub mod keeping;
 pub mod policy;
 pub mod rights;
+pub mod role_paths;
 pub mod vault_set;

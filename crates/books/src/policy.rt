@@ -5,12 +5,15 @@ ghost use Rattle.model.specs.EdgeSets.{Found, Absent, ascends, all_edges, insert
 ghost use Rattle.books.specs.VaultSets.{has_vault};
 ghost use Rattle.books.specs.Ledgers.{is_told, told_of, entry_answer, with_entry};
 ghost use Rattle.books.specs.Additions.{rises};
+ghost use Rattle.books.specs.Onwards.{Tells};
 
 use crate::addition::Addition;
+use crate::edge_list::EdgeList;
+use crate::role_paths::RolePaths;
 use crate::vault_set::VaultSet;
 use faults::centre::CentreFault;
-use graph::graph::Graph;
-use model::places;
+use graph::graph::{Graph, Paths};
+use graph::search::first;
 use model::roles::Roles;
 use std::alloc::{AllocError, Global};
 use terms::edges::Edge;
@@ -18,16 +21,19 @@ use terms::edges::Edge;
 // How many edges a policy may have.
 const MOST: usize = 512;
 
-// The edges of the policy, ascending, and beside each the vaults that are told of it. Its room is
-// reserved when it is made. It means a ledger.
+// The edges of the policy, ascending, and beside each the vaults that are told of it; and for each role
+// the roles that it reaches, kept so that no question searches. Its room is reserved when it is made. It
+// means a ledger.
 #[derive(Drop)]
 pub struct Policy {
     pub(crate) edges: Vec<Edge>,
     pub(crate) told: Vec<VaultSet>,
+    pub(crate) paths: RolePaths,
     ghost sorted: { ascends edges.items ≡ true },
     ghost proper: { all_edges edges.items ≡ true },
     ghost few: { vec_len edges ≤ 512 },
     ghost paired: { vec_len told ≡ vec_len edges },
+    ghost known: { Tells edges.items paths },
     ghost reserved: { 512 ≤ vec_capacity edges },
     ghost beside: { 512 ≤ vec_capacity told },
 }
@@ -63,7 +69,8 @@ impl Policy {
     {
         let edges = Vec::with_capacity(heap, MOST)?;
         let told = Vec::with_capacity(heap, MOST)?;
-        Ok(Policy { edges, told })
+        let paths = RolePaths::of(&EdgeList { edges: &[] });
+        Ok(Policy { edges, told, paths })
     }
 
     pub fn edges(&self) -> &[Edge]
@@ -79,11 +86,11 @@ impl Policy {
         self.edges.len() >= MOST
     }
 
-    // Ok with the place of an edge, or Err with the place where it would go.
-    fn seek(&self, edge: Edge) -> Result<usize, usize>
-        ensures { MatchResult result (λ i. Found edge (policy_edges self.now) i) (λ i. Absent edge (policy_edges self.now) i) }
+    // The edges as a graph by themselves.
+    fn list(&self) -> EdgeList<'_>
+        ensures { result.edges.now ≡ policy_edges self.now }
     {
-        places::find(&self.edges, edge)
+        EdgeList { edges: &self.edges }
     }
 
     // Puts an edge that is absent into its place; nobody is told of it.
@@ -97,6 +104,7 @@ impl Policy {
     {
         let _ = self.edges.insert(at, edge);
         let _ = self.told.insert(at, VaultSet::none());
+        self.paths = self.paths.with(edge);
     }
 
     // Takes the edge out that stands at a place.
@@ -108,6 +116,7 @@ impl Policy {
         ensures told { (k : ℕ) (x : Edge) → is_told (ledger self.new) k x ≡ (not (same edge x) && is_told (ledger self.old) k x) }
     {
         let _ = self.edges.remove(at);
+        self.paths = self.paths.without(edge, &EdgeList { edges: &self.edges });
         self.told.remove(at)
     }
 
@@ -121,7 +130,7 @@ impl Policy {
         if !edge.is_edge() {
             return Err(CentreFault::NoEdge);
         }
-        match self.seek(edge) {
+        match self.list().seek(edge) {
             Ok(_) => Ok(()),
             Err(_) if self.is_full() => Err(CentreFault::PolicyFull),
             Err(at) => {
@@ -138,7 +147,7 @@ impl Policy {
         ensures edges { (ledger self.new).edges ≡ delete edge (ledger self.old).edges }
         ensures told { (k : ℕ) (x : Edge) → is_told (ledger self.new) k x ≡ (not (same edge x) && is_told (ledger self.old) k x) }
     {
-        match self.seek(edge) {
+        match self.list().seek(edge) {
             Ok(at) => self.take(at, edge),
             Err(_) => VaultSet::none(),
         }
@@ -151,6 +160,8 @@ impl Policy {
         ensures newly { place < length (ledger self.old).edges → (k : ℕ) → has_vault result k ≡ (has_vault vaults k && not (is_told (ledger self.old) k (slice_index_or (ledger self.old).edges place no_edge))) }
         ensures edges { (ledger self.new).edges ≡ (ledger self.old).edges }
         ensures told { place < length (ledger self.old).edges → (k : ℕ) (x : Edge) → is_told (ledger self.new) k x ≡ (is_told (ledger self.old) k x || (same (slice_index_or (ledger self.old).edges place no_edge) x && has_vault vaults k)) }
+        ensures past { length (ledger self.old).edges ≤ place → (k : ℕ) → has_vault result k ≡ false }
+        ensures untold { length (ledger self.old).edges ≤ place → (k : ℕ) (x : Edge) → is_told (ledger self.new) k x ≡ is_told (ledger self.old) k x }
     {
         match self.told.get_mut(place) {
             Some(told) => {
@@ -188,10 +199,17 @@ impl Graph for Policy {
     ghost formed = { λ p. p.proper };
 
     fn holds(&self, edge: Edge) -> bool {
-        self.seek(edge).is_ok()
+        self.list().holds(edge)
     }
 
     fn row(&self, from: u16) -> Roles {
-        places::row(&self.edges, from)
+        self.list().row(from)
+    }
+}
+
+// Its paths are known.
+impl Paths for Policy {
+    fn reached(&self, from: u16) -> Roles {
+        self.paths.closure(first(self, from))
     }
 }

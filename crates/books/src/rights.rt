@@ -1,4 +1,4 @@
-ghost use Rattle.std.specs.Prelude.{◌≡◌, true};
+ghost use Rattle.std.specs.Prelude.{◌≡◌, true, false};
 ghost use Rattle.std.specs.List.{list_any};
 ghost use Rattle.terms.specs.Graph.{is_user};
 ghost use Rattle.meaning.specs.Questions.{reaches_over};
@@ -6,11 +6,12 @@ ghost use Rattle.books.specs.Books.{policy_edges};
 ghost use Rattle.books.specs.Rights.{stands_at, leads_to};
 
 use crate::policy::Policy;
-use graph::search::reached;
+use graph::graph::Paths;
 use model::roles::Roles;
 use names::privileges::Privileges;
 use precedence::precedence::Precedence;
-use terms::edges::Change;
+use terms::edges::{Change, Edge};
+use terms::kinds::Kind;
 
 // Whether a vertex is a declared privilege that stands over a change.
 fn stands<R: Precedence>(
@@ -28,6 +29,22 @@ fn stands<R: Precedence>(
     }
 }
 
+// Whether an edge goes from one of some roles to a declared privilege that stands over a change. Most edges
+// go to none, which is seen at once.
+#[tactic(auto, using(crate::proofs::Ends::low_stands))]
+fn leads<R: Precedence>(
+    rule: &R,
+    names: &Privileges,
+    policy: &Policy,
+    roles: Roles,
+    edge: Edge,
+    wanted: Change,
+) -> bool
+    ensures { result ≡ leads_to roles.word (stands_at (λ d. R.over rule.now names.now (policy_edges policy.now) d wanted) names.now) edge }
+{
+    edge.to >= 256 && roles.has(edge.from) && stands(rule, names, policy, edge.to, wanted)
+}
+
 // Whether one of some roles has an edge to a declared privilege that stands over a change.
 fn have_right<R: Precedence>(
     rule: &R,
@@ -39,10 +56,12 @@ fn have_right<R: Precedence>(
     ensures { result ≡ list_any (leads_to roles.word (stands_at (λ d. R.over rule.now names.now (policy_edges policy.now) d wanted) names.now)) (policy_edges policy.now) }
 {
     let edges = policy.edges();
-    edges.iter().any(|edge| roles.has(edge.from) && stands(rule, names, policy, edge.to, wanted))
+    edges
+        .iter()
+        .any(|edge| leads(rule, names, policy, roles, *edge, wanted))
 }
 
-// Whether a user reaches a declared privilege that the rule puts over a change.
+// Whether a vertex is a user, and reaches a declared privilege that the rule puts over a change.
 pub fn is_authorised<R: Precedence>(
     rule: &R,
     names: &Privileges,
@@ -50,7 +69,8 @@ pub fn is_authorised<R: Precedence>(
     user: u16,
     wanted: Change,
 ) -> bool
-    ensures { is_user user ≡ true → result ≡ reaches_over (λ d. R.over rule.now names.now (policy_edges policy.now) d wanted) (policy_edges policy.now) user 256 names.now }
+    ensures user { is_user user ≡ true → result ≡ reaches_over (λ d. R.over rule.now names.now (policy_edges policy.now) d wanted) (policy_edges policy.now) user 256 names.now }
+    ensures other { is_user user ≡ false → result ≡ false }
 {
-    have_right(rule, names, policy, reached(policy, user), wanted)
+    Kind::User.has(user) && have_right(rule, names, policy, policy.reached(user), wanted)
 }

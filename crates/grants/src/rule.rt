@@ -1,7 +1,7 @@
 ghost use Rattle.std.specs.Prelude.{◌≡◌};
 ghost use Rattle.grants.specs.Granting.{gives, granting, granting_lawful};
 
-use graph::graph::Graph;
+use graph::graph::Paths;
 use graph::search::reaches;
 use names::privileges::Privileges;
 use precedence::precedence::Precedence;
@@ -13,8 +13,8 @@ use terms::kinds::Kind;
 #[derive(Clone, Copy)]
 pub struct Grants;
 
-fn gives<G: Graph>(policy: &G, held: Change, wanted: Change) -> bool
-    ensures { result ≡ gives (G.edges policy.now) held wanted }
+fn gives<G: Paths>(policy: &G, held: Change, wanted: Change) -> bool
+    ensures { result ≡ gives (G.Graph.edges policy.now) held wanted }
 {
     match (held, wanted) {
         (Change::Add(held), Change::Add(wanted)) => {
@@ -33,7 +33,7 @@ impl Precedence for Grants {
 
     ghost lawful = { λ _. granting_lawful };
 
-    fn stands<G: Graph>(
+    fn stands<G: Paths>(
         &self,
         _privileges: &Privileges,
         policy: &G,

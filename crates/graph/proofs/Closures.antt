@@ -4,9 +4,9 @@ use Rattle.std.specs.List.{list_any, range_with_len}
 use Rattle.std.proofs.lemmas.List.Folds.{list_any_at}
 use Rattle.std.proofs.lemmas.List.FromFn.{length-range_with_len, get_or-range_with_len}
 use Rattle.std.proofs.lemmas.Nat.{le_or_l, or_lt, pow_below}
-use Rattle.std.proofs.lemmas.Bool.{false≢true, both_ways, not-true, not_from_false, true_from_ne_false, and_parts, and_from, or_cases, or_left, or_right, eqb-true, eq-eqb}
+use Rattle.std.proofs.lemmas.Bool.{false≢true, both_ways, not-true, not_from_false, true_from_ne_false, false_from_ne_true, and_parts, and_from, or_cases, or_left, or_right, eqb-true, eq-eqb}
 use Rattle.std.proofs.lemmas.Bool.Decides.{nat_tests, same_from_decides}
-use Rattle.terms.specs.Graph.{edge, is_edge, is_role}
+use Rattle.terms.specs.Graph.{edge, is_edge, is_role, is_user}
 use Rattle.model.specs.EdgeSets.{Edges, has, all_edges, ◌∈◌}
 use Rattle.model.specs.BitRows.{bit, Row, has_role, role_word, is_beyond}
 use Rattle.model.proofs.Members.{edge_member}
@@ -22,13 +22,13 @@ pub record Searching (s : Edges) (w seen done : ℕ) : Type 0 where
   pub sound : (v : ℕ) → has_role seen v ≡ true → FromRoles s w v
   pub followed : (v x : ℕ) → is_role x ≡ true → has_role done v ≡ true → edge v x ∈ s → has_role seen x ≡ true
 
-a_role : (w v : ℕ) → has_role w v ≡ true → is_role v ≡ true
+pub a_role : (w v : ℕ) → has_role w v ≡ true → is_role v ≡ true
 a_role w v h = (and_parts (is_role v) (bit w (v - 64)) h).0
 
-or_has_left : (a b v : ℕ) → has_role a v ≡ true → has_role (bit_or a b) v ≡ true
+pub or_has_left : (a b v : ℕ) → has_role a v ≡ true → has_role (bit_or a b) v ≡ true
 or_has_left a b v h = has_or a b v ∙ or_left (has_role a v) (has_role b v) h
 
-or_has_right : (a b v : ℕ) → has_role b v ≡ true → has_role (bit_or a b) v ≡ true
+pub or_has_right : (a b v : ℕ) → has_role b v ≡ true → has_role (bit_or a b) v ≡ true
 or_has_right a b v h = has_or a b v ∙ or_right (has_role a v) (has_role b v) h
 
 -- the search begins
@@ -40,20 +40,30 @@ search_begins s w = record {
   followed = λ v x o h e. absurd (both_ways (has_role 0 v) (has_none v) h);
 }
 
+-- the more roles are done, the fewer words are left
+pub falls : (seen done v : ℕ) → done < 2 ^ 64 → is_beyond seen done v ≡ true → 2 ^ 64 - bit_or done (role_word v) < 2 ^ 64 - done
+falls seen done v l h =
+    let p = and_parts (has_role seen v) (not (has_role done v)) h in
+    let role : is_role v ≡ true = a_role seen v p.0 in
+    let n : done ≢ bit_or done (role_word v) =
+    λ q. both_ways (has_role done v) (not-true (has_role done v) p.1) (ap (λ (m : ℕ). has_role m v) q ∙ has_with done v v role ∙ or_right (has_role done v) _ (eq-eqb v v refl)) in
+    omega (arith, l, le_or_l done (role_word v), n)
+
+-- one role more is done
+pub still_word : (done v : ℕ) → done < 2 ^ 64 → is_role v ≡ true → bit_or done (role_word v) < 2 ^ 64
+still_word done v l r = let p : role_word v < 2 ^ 64 = rw r (pow_below (v - 64) 64 (place_of v r).0) in or_lt 64 done (role_word v) l p
+
 -- the edges of a role that was seen are followed
 module _ {s : Edges} {w seen done : ℕ} (x : Searching s w seen done) (v : ℕ) (h : is_beyond seen done v ≡ true) where
   was_seen : has_role seen v ≡ true
   was_seen = (and_parts (has_role seen v) (not (has_role done v)) h).0
-
-  not_done : has_role done v ≡ false
-  not_done = not-true (has_role done v) (and_parts (has_role seen v) (not (has_role done v)) h).1
 
   role : is_role v ≡ true
   role = a_role seen v was_seen
 
   pub search_goes_on : (row : ℕ) → Row s v row → Searching s w (bit_or seen row) (bit_or done (role_word v))
   search_goes_on row r = record {
-    word = let p : role_word v < 2 ^ 64 = rw role (pow_below (v - 64) 64 (place_of v role).0) in or_lt 64 done (role_word v) x.word p;
+    word = still_word done v x.word role;
     begun = λ y b. or_has_left seen row y (x.begun y b);
     sound = λ y b. ⊎_elim (x.sound y) (further y) (or_cases (has_role seen y) (has_role row y) (sym (has_or seen row y) ∙ b));
     followed = λ u y o b e.
@@ -68,17 +78,14 @@ module _ {s : Edges} {w seen done : ℕ} (x : Searching s w seen done) (v : ℕ)
           (z.0, z.1, reach_trans z.2 (step (sym (has_row s v row r y (a_role row y c)) ∙ c) here))
 
   pub search_falls : 2 ^ 64 - bit_or done (role_word v) < 2 ^ 64 - done
-  search_falls =
-      let n : done ≢ bit_or done (role_word v) =
-      λ q. both_ways (has_role done v) not_done (ap (λ (m : ℕ). has_role m v) q ∙ has_with done v v role ∙ or_right (has_role done v) _ (eq-eqb v v refl)) in
-      omega (arith, x.word, le_or_l done (role_word v))
+  search_falls = falls seen done v x.word h
 
 -- from a role an edge goes to a role or to a privilege, and nothing leaves a privilege
-role_step : (s : Edges) → all_edges s ≡ true → (x y : ℕ) → edge x y ∈ s → (x < 128) × (64 ≤ y)
+pub role_step : (s : Edges) → all_edges s ≡ true → (x y : ℕ) → edge x y ∈ s → (x < 128) × (64 ≤ y)
 role_step s f x y h = let e : is_edge (edge x y) ≡ true = edge_member (edge x y) s f h in (grind (arith, nat_tests), grind (arith, nat_tests))
 
 -- a path to a role goes through roles
-to_role : (s : Edges) → all_edges s ≡ true → {x z : ℕ} → Reach s x z → z < 128 → x < 128
+pub to_role : (s : Edges) → all_edges s ≡ true → {x z : ℕ} → Reach s x z → z < 128 → x < 128
 to_role s f here l = l
 to_role s f (step {x = x} {y = y} e p) l = (role_step s f x y e).0
 
@@ -134,6 +141,13 @@ pub last_edge : (s : Edges) {a b : ℕ} → Reach s a b → (a ≡ b) ⊎ ((x : 
 last_edge s here = inl refl
 last_edge s (step {x = x} {z = z} e p) =
     ⊎_elim (λ q. inr (x, here, subst (λ (n : ℕ). edge x n ∈ s) q e)) (λ y. inr (y.0, step e y.1, y.2)) (last_edge s p)
+
+-- no edge goes to a user
+pub reaches_user : (s : Edges) (a b : ℕ) → all_edges s ≡ true → a ≢ b → is_user b ≡ true → false ≡ reaches s a b
+reaches_user s a b f n u = sym (false_from_ne_true (reaches s a b) (λ h. ⊎_elim n into (last_edge s ((paths_decided s a b).0 h))))
+  where
+    into : (x : ℕ) × Reach s a x × (edge x b ∈ s) → ⊥
+    into (x, q, e) = let l : 64 ≤ b = (role_step s f x b e).1 in let o : b < 64 = grind (arith, nat_tests) in omega (arith, l, o)
 
 pub leaves_role : (s : Edges) → all_edges s ≡ true → (x b : ℕ) → is_role b ≡ false → edge x b ∈ s → (64 ≤ x) × (x < 128)
 leaves_role s f x b h e = let i : is_edge (edge x b) ≡ true = edge_member (edge x b) s f e in (grind (arith, nat_tests), grind (arith, nat_tests))

@@ -2,7 +2,9 @@ ghost use Rattle.std.specs.Prelude.{◌≡◌, true};
 ghost use Rattle.model.specs.EdgeSets.{Edges, all_edges, has};
 ghost use Rattle.model.specs.BitRows.{Row};
 ghost use Rattle.model.proofs.Members.{vault_edges};
+ghost use Rattle.graph.specs.Searches.{ReachesRoles};
 
+use crate::search::{closure, first};
 use model::roles::Roles;
 use stores::store::Reader;
 use terms::edges::Edge;
@@ -34,5 +36,19 @@ impl<R: Reader> Graph for R {
 
     fn row(&self, from: u16) -> Roles {
         Reader::row(self, from)
+    }
+}
+
+// A graph that tells at once all roles that a vertex reaches.
+pub trait Paths: Graph {
+    // The roles that a vertex reaches, itself among them if it is a role.
+    fn reached(&self, from: u16) -> Roles
+        ensures { ReachesRoles (Self.Graph.edges self.now) from result.word };
+}
+
+// A reader searches for them.
+impl<R: Reader> Paths for R {
+    fn reached(&self, from: u16) -> Roles {
+        closure(self, first(self, from))
     }
 }

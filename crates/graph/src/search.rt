@@ -4,13 +4,13 @@ ghost use Rattle.model.specs.BitRows.{has_role};
 ghost use Rattle.meaning.specs.Paths.{reaches};
 ghost use Rattle.graph.specs.Searches.{Closure, Begins, ReachesRoles, edge_from};
 
-use crate::graph::Graph;
+use crate::graph::{Graph, Paths};
 use model::roles::Roles;
 use terms::edges::Edge;
 use terms::kinds::Kind;
 
 // The roles that some roles reach. The edges of each role are followed once.
-fn closure<G: Graph>(graph: &G, roles: Roles) -> Roles
+pub fn closure<G: Graph>(graph: &G, roles: Roles) -> Roles
     ensures { Closure (G.edges graph.now) roles.word result.word }
 {
     let mut seen = roles;
@@ -30,7 +30,7 @@ fn have_edge<G: Graph>(graph: &G, roles: Roles, to: u16) -> bool
 }
 
 // The roles to begin with: a role itself, or those that any other vertex has an edge to.
-fn first<G: Graph>(graph: &G, from: u16) -> Roles
+pub fn first<G: Graph>(graph: &G, from: u16) -> Roles
     ensures { Begins (G.edges graph.now) from result.word }
 {
     if Kind::Role.has(from) {
@@ -50,27 +50,23 @@ fn is_reached<G: Graph>(graph: &G, from: u16, roles: Roles, to: u16) -> bool
     if Kind::Role.has(to) {
         return roles.has(to);
     }
+    if Kind::User.has(to) {
+        return false;
+    }
     have_edge(graph, roles, to)
-}
-
-// The roles that a vertex reaches, itself among them if it is a role.
-pub fn reached<G: Graph>(graph: &G, from: u16) -> Roles
-    ensures { ReachesRoles (G.edges graph.now) from result.word }
-{
-    closure(graph, first(graph, from))
 }
 
 // Whether a vertex reaches another. Every number is answered: one that is no vertex reaches itself
 // alone.
-pub fn reaches<G: Graph>(graph: &G, from: u16, to: u16) -> bool
-    ensures { result ≡ reaches (G.edges graph.now) from to }
+pub fn reaches<G: Paths>(graph: &G, from: u16, to: u16) -> bool
+    ensures { result ≡ reaches (G.Graph.edges graph.now) from to }
 {
-    is_reached(graph, from, reached(graph, from), to)
+    is_reached(graph, from, graph.reached(from), to)
 }
 
 // The roles that reach a vertex.
-pub fn leading<G: Graph>(graph: &G, to: u16) -> Roles
-    ensures { (x : ℕ) → is_role x ≡ true → has_role result.word x ≡ reaches (G.edges graph.now) x to }
+pub fn leading<G: Paths>(graph: &G, to: u16) -> Roles
+    ensures { (x : ℕ) → is_role x ≡ true → has_role result.word x ≡ reaches (G.Graph.edges graph.now) x to }
 {
     let mut roles = Roles::none();
     for role in 64..128u16 {

@@ -6,7 +6,7 @@ ghost use Rattle.meaning.specs.Precedence.{over, full_rule, all_subjects, both_r
 ghost use Rattle.meaning.proofs.Ordering.{rules_lawful};
 
 use crate::precedence::Precedence;
-use graph::graph::Graph;
+use graph::graph::Paths;
 use graph::search::reaches;
 use names::privileges::Privileges;
 use terms::edges::{Change, Edge};
@@ -21,8 +21,8 @@ const DEEPEST: u8 = 9;
 
 // Whether both edges are between users and roles, and the second vertex of the one leads to that of
 // the other.
-fn leads_on<G: Graph>(policy: &G, held: Edge, wanted: Edge) -> bool
-    ensures { result ≡ (all_subjects held wanted && reaches (G.edges policy.now) held.to wanted.to) }
+fn leads_on<G: Paths>(policy: &G, held: Edge, wanted: Edge) -> bool
+    ensures { result ≡ (all_subjects held wanted && reaches (G.Graph.edges policy.now) held.to wanted.to) }
 {
     let subjects = held.from < 128 && held.to < 128 && wanted.from < 128 && wanted.to < 128;
     subjects && reaches(policy, held.to, wanted.to)
@@ -44,14 +44,14 @@ fn same_privilege(held: Edge, wanted: Edge) -> bool
 
 // Whether one privilege stands over another, which is nested at most `depth` deep.
 #[cycle(nesting)]
-fn stands_over<G: Graph>(
+fn stands_over<G: Paths>(
     privileges: &Privileges,
     policy: &G,
     depth: u8,
     held: Change,
     wanted: Change,
 ) -> bool
-    ensures { result ≡ over privileges.now (G.edges policy.now) depth held wanted }
+    ensures { result ≡ over privileges.now (G.Graph.edges policy.now) depth held wanted }
 {
     if depth == 0 {
         return held == wanted;
@@ -68,14 +68,14 @@ fn stands_over<G: Graph>(
 // The same of two additions of different edges, where the privileges in them are nested at most `depth`
 // deep.
 #[cycle(nesting)]
-fn adds_over<G: Graph>(
+fn adds_over<G: Paths>(
     privileges: &Privileges,
     policy: &G,
     depth: u8,
     held: Edge,
     wanted: Edge,
 ) -> bool
-    ensures { result ≡ stronger privileges.now (G.edges policy.now) depth held wanted }
+    ensures { result ≡ stronger privileges.now (G.Graph.edges policy.now) depth held wanted }
 {
     if !reaches(policy, wanted.from, held.from) {
         return false;
@@ -100,7 +100,7 @@ impl Precedence for Full {
 
     ghost lawful = { λ _. rules_lawful.1 };
 
-    fn stands<G: Graph>(
+    fn stands<G: Paths>(
         &self,
         privileges: &Privileges,
         policy: &G,
