@@ -1,5 +1,6 @@
 -- What a line of a script is answered, and what it leaves.
-use Rattle.std.specs.Prelude.{◌≡◌, ℕ, Bool, true, false, cond, List, [], ◌∷◌, Ok, Err, Result}
+use Rattle.std.specs.Prelude.{◌≡◌, ℕ, Bool, true, false, cond, List, [], ◌∷◌, ◌++◌, Some, None, Option, Ok, Err, Result, codes, decimal}
+use Rattle.faults.specs.Numbers.{script_number, centre_place, text_place}
 use Rattle.faults.specs.declared.text.TextFault.{TextFault}
 use Rattle.faults.specs.declared.script.ScriptFault.{ScriptFault}
 use Rattle.faults.specs.declared.script.ScriptFault.TheVariants.{Text, Centre}
@@ -19,6 +20,20 @@ use Rattle.centre.specs.Installed.{state, rule_of}
 abbrev pub line_answer : Answer → Result (Unit {0}) ScriptFault
 line_answer (Ok n) = Ok tt
 line_answer (Err f) = Err (Centre f)
+
+-- where a refusal is to be found: the column of a line, or the vault that is short of room
+abbrev pub place_of : ScriptFault → Option ℕ
+place_of (Text f) = Some (text_place f).column
+place_of (Centre f) = elim (centre_place f) [ None ↦ None | Some p ↦ Some p.vault ]
+
+abbrev pub behind : Option ℕ → List ℕ
+behind None = []
+behind (Some n) = 32 ∷ decimal n
+
+-- how an answer is printed: 0, or the number of the refusal, and behind a space its place where it has one
+abbrev pub answer_text : Result (Unit {0}) ScriptFault → List ℕ
+answer_text (Ok x) = codes "0"
+answer_text (Err f) = decimal (script_number f) ++ behind (place_of f)
 
 -- the calls with which naming is over
 abbrev pub is_past_naming : Call → Bool

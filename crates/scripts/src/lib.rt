@@ -2,4 +2,5 @@
 
 pub mod front;
 pub mod line;
+pub mod serving;
 pub mod shown;

@@ -1,4 +1,6 @@
-use faults::centre::CentreFault;
+ghost use Rattle.std.specs.Prelude.{◌≡◌};
+ghost use Rattle.scripts.specs.Answering.{place_of};
+
 use faults::refusal::Refusal;
 use faults::script::ScriptFault;
 use std::fmt;
@@ -8,25 +10,31 @@ use std::fmt;
 pub struct Shown(pub Result<(), ScriptFault>);
 
 // Where a refusal is to be found: a vault that is short of room, or a column.
-fn place(fault: ScriptFault) -> Option<usize> {
+fn place(fault: ScriptFault) -> Option<usize>
+    ensures { result ≡ place_of fault }
+{
     match fault {
         ScriptFault::Text(fault) => Some(fault.place().column),
-        ScriptFault::Centre(CentreFault::StoreRoom(place) | CentreFault::LinkRoom(place)) => {
-            Some(place.vault)
-        }
-        ScriptFault::Centre(_) => None,
+        ScriptFault::Centre(fault) => Some(fault.place()?.vault),
     }
 }
 
 impl fmt::Display for Shown {
+    ghost use Rattle.std.specs.Prelude.{Some};
+    ghost use Rattle.scripts.specs.Answering.{answer_text};
+
+    ghost output = { λ x. Some (answer_text x.0) };
+
     fn fmt<W: fmt::Write>(&self, f: &mut fmt::Formatter<W>) -> fmt::Result {
-        let Err(fault) = self.0 else {
-            return write!(f, "0");
-        };
-        let number = fault.number();
-        match place(fault) {
-            Some(place) => write!(f, "{number} {place}"),
-            None => write!(f, "{number}"),
+        match self.0 {
+            Ok(()) => f.write_str("0"),
+            Err(fault) => {
+                let number = fault.number();
+                match place(fault) {
+                    Some(place) => write!(f, "{number} {place}"),
+                    None => write!(f, "{number}"),
+                }
+            }
         }
     }
 }
