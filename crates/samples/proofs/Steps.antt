@@ -5,7 +5,7 @@ use Rattle.faults.specs.declared.bank.BankFault.TheVariants.{NoVault}
 use Rattle.terms.specs.declared.edges.Change.{Change}
 use Rattle.links.specs.Waiting.{first}
 use Rattle.vaults.specs.Sites.{Site, site_at, alter, strike_at, asked}
-use Rattle.samples.specs.Delivery.{table_says, performed, struck_if, first_done, delivered}
+use Rattle.samples.specs.Delivery.{table_says, performed, first_done, delivered}
 
 alter_twice : (f g : Site → Site) (v : ℕ) (xs : List Site) → alter v f (alter v g xs) ≡ alter v (λ x. f (g x)) xs
 alter_twice f g v [] = refl

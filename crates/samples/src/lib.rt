@@ -1,4 +1,5 @@
 #![tactic(auto)]
 
+pub mod claim;
 pub mod delivery;
 pub mod edges;

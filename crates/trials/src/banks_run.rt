@@ -1,4 +1,3 @@
-use crate::claim::claim;
 use crate::edges::pair;
 use faults::bank::BankFault;
 use faults::link::LinkFault;
@@ -10,6 +9,7 @@ use memories::slots::Slots;
 use memories::strip::Strip;
 use pairs::pairs::Pairs;
 use rows::rows::Rows;
+use samples::claim::claim;
 use std::alloc::{AllocError, Global};
 use std::test::Fail;
 use stores::store::Made;

@@ -1,10 +1,10 @@
-use crate::claim::claim;
 use crate::edges::pair;
 use faults::image::ImageFault;
 use images::image::Image;
 use images::writer::write;
 use pairs::pairs::Pairs;
 use rows::rows::Rows;
+use samples::claim::claim;
 use std::test::Fail;
 use stores::store::{Made, Reader, Store};
 

@@ -5,8 +5,6 @@
 #[cfg(test)]
 mod banks_run;
 #[cfg(test)]
-mod claim;
-#[cfg(test)]
 mod edges;
 #[cfg(test)]
 mod images_run;

@@ -1,10 +1,10 @@
-use crate::claim::claim;
 use crate::edges::pair;
 use calls::call::Call;
 use faults::layers::Layer;
 use faults::refusal::Refusal;
 use faults::text::{Column, TextFault};
 use names::privileges::Privileges;
+use samples::claim::claim;
 use std::alloc::Global;
 use std::test::Fail;
 use terms::edges::Change;

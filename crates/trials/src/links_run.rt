@@ -1,4 +1,3 @@
-use crate::claim::claim;
 use crate::edges::{nth_edge, pair};
 use faults::link::LinkFault;
 use links::link::Link;
@@ -6,6 +5,7 @@ use links::memory::Blank;
 use links::queue::Queue;
 use memories::slots::Slots;
 use memories::strip::Strip;
+use samples::claim::claim;
 use std::test::Fail;
 use terms::edges::Change;
 

@@ -1,7 +1,7 @@
-use crate::claim::claim;
 use crate::edges::pair;
 use faults::centre::CentreFault;
 use names::privileges::Privileges;
+use samples::claim::claim;
 use std::test::Fail;
 use terms::edges::Change;
 

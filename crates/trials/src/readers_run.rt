@@ -1,8 +1,8 @@
-use crate::claim::claim;
 use crate::edges::pair;
 use images::image::Image;
 use pairs::pairs::Pairs;
 use rows::rows::Rows;
+use samples::claim::claim;
 use std::test::Fail;
 use stores::store::{Made, Reader, Store};
 

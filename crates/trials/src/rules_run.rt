@@ -1,4 +1,3 @@
-use crate::claim::claim;
 use crate::edges::pair;
 use crate::lines_run::{adding, removing};
 use names::privileges::Privileges;
@@ -6,6 +5,7 @@ use pairs::pairs::Pairs;
 use precedence::full::Full;
 use precedence::plain::Plain;
 use precedence::precedence::Precedence;
+use samples::claim::claim;
 use std::alloc::Global;
 use std::test::Fail;
 use stores::store::{Made, Store};

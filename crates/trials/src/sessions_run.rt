@@ -1,7 +1,7 @@
-use crate::claim::claim;
 use crate::edges::pair;
 use faults::session::SessionFault;
 use pairs::pairs::Pairs;
+use samples::claim::claim;
 use sessions::session::{Session, ask_once};
 use std::test::Fail;
 use stores::store::{Made, Reader, Store};

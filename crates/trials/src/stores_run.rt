@@ -1,8 +1,8 @@
-use crate::claim::claim;
 use crate::edges::{nth_edge, pair};
 use faults::store::StoreFault;
 use pairs::pairs::Pairs;
 use rows::rows::Rows;
+use samples::claim::claim;
 use std::test::Fail;
 use stores::store::{Made, Reader, Store};
 

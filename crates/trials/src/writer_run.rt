@@ -1,9 +1,9 @@
-use crate::claim::claim;
 use crate::lines_run::{adding, eight, removing, three};
 use faults::layers::Layer;
 use faults::line::LineFault;
 use faults::refusal::Refusal;
 use names::privileges::Privileges;
+use samples::claim::claim;
 use std::test::Fail;
 use terms::edges::Change;
 use text::writer::write_command;

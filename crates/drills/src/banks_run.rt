@@ -1,0 +1,113 @@
+use crate::company::OneVault;
+use crate::steps::{ACCEPTED, accepted, answered, begun, deliver, edge, keep, seat, stands_at};
+use banks::made::MadeBank;
+use calls::call::Call;
+use centre::begin::begin;
+use faults::centre::CentreFault;
+use memories::makes::{Packed, Ring};
+use pairs::pairs::Pairs;
+use precedence::full::Full;
+use rows::rows::Rows;
+use samples::claim::claim;
+use std::alloc::{AllocError, Global};
+use std::test::Fail;
+use vaults::bank::Bank;
+use vaults::vault::Vault;
+
+// The two pairs of makes that the counter has not.
+type TwoVaults = (Vault<Ring, Pairs>, (Vault<Packed, Rows>, ()));
+
+// Each of some vaults keeps a privilege of its own, and the role that has all of them has a user.
+fn spread<B: MadeBank + Drop>(heap: Global, count: usize) -> Result<(), Fail> {
+    let mut at = begun::<B, Full>(heap, 4, 2, Full)?;
+    for vault in 0..count {
+        at = accepted(at, &[keep(vault, own(vault))])?;
+    }
+    at = answered(
+        at,
+        &[
+            (keep(count, 128), Err(CentreFault::NoVault)),
+            (keep(0, 127), Err(CentreFault::NoPrivilege)),
+            (Call::EndNaming, ACCEPTED),
+        ],
+    )?;
+    for vault in 0..count {
+        at = accepted(at, &[seat(64, own(vault))])?;
+    }
+    at = accepted(at, &[seat(2, 64)])?;
+    for vault in 0..count {
+        claim(
+            stands_at(&at, vault, 2, 0, 2),
+            "each vault is sent two edges",
+        )?;
+        at = answered(
+            at,
+            &[
+                (deliver(vault), ACCEPTED),
+                (deliver(vault), ACCEPTED),
+                (deliver(vault), Err(CentreFault::NothingWaiting)),
+            ],
+        )?;
+        claim(stands_at(&at, vault, 0, 2, 2), "it has both")?;
+        claim(
+            at.office().keeps(vault, own(vault)) == Ok(true),
+            "it keeps its own",
+        )?;
+        claim(
+            at.office().keeps(vault, 255) == Ok(false),
+            "it keeps no other",
+        )?;
+    }
+    Ok(())
+}
+
+// The privilege that a vault keeps.
+fn own(vault: usize) -> u16 {
+    if vault == 0 { 128 } else { 129 }
+}
+
+#[test]
+fn every_make(rt: HostRuntime) -> Result<(), Fail> {
+    spread::<TwoVaults>(rt.alloc(), 2)
+}
+
+// How many vaults of a bank are worked.
+fn worked<B: Bank + Drop>(heap: Global, bank: B) -> Result<usize, AllocError> {
+    let naming = begin(heap, bank, Full).map_err(|_| AllocError)?;
+    Ok(naming.office().vault_count())
+}
+
+fn worked_with<B: MadeBank + Drop>(
+    heap: Global,
+    link: usize,
+    store: usize,
+) -> Result<usize, AllocError> {
+    worked(heap, B::made(heap, link, store)?)
+}
+
+fn used<B: MadeBank + Drop>(heap: Global) -> Result<usize, AllocError> {
+    let mut bank = B::made(heap, 2, 1)?;
+    let _ = bank.put(0, edge(0, 64));
+    worked(heap, bank)
+}
+
+// A bank that does not pass inspection is worked as one without vaults.
+#[test]
+fn inspected(rt: HostRuntime) -> Result<(), Fail> {
+    let heap = rt.alloc();
+    for (link, store, count) in [
+        (2, 1, 1),
+        (1024, 512, 1),
+        (1, 1, 0),
+        (1025, 1, 0),
+        (2, 0, 0),
+        (2, 513, 0),
+    ] {
+        claim(
+            worked_with::<OneVault>(heap, link, store)? == count,
+            "it is as inspection says",
+        )?;
+    }
+    claim(worked_with::<()>(heap, 2, 1)? == 0, "a bank without vaults")?;
+    claim(used::<OneVault>(heap)? == 0, "a bank that was used")
+}
