@@ -1,29 +1,36 @@
 use faults::session::SessionFault;
-use graph::search::reached;
+use graph::graph::Paths;
+use links::link::Link;
 use sessions::session::{Session, ask_once};
-use stores::store::Reader;
+use stores::store::{Reader, Store};
+use terms::edges::{Change, Edge};
 
-// How many questions were asked, and how many were answered yes.
+// How many calls a job made, and what it counted.
 #[derive(Clone, Copy)]
 pub struct Tally {
-    pub asked: u32,
-    pub yes: u32,
+    pub asked: usize,
+    pub counted: usize,
 }
 
 impl Tally {
-    // One more question and its answer.
+    // One more question and its answer; what is counted is how often it was yes.
     fn with(self, yes: bool) -> Tally {
         Tally {
             asked: self.asked.saturating_add(1),
-            yes: self.yes.saturating_add(u32::from(yes)),
+            counted: self.counted.saturating_add(usize::from(yes)),
         }
     }
 }
 
-// Something that asks many questions. Each turn begins with another user, as the compiler would else do
-// the same work once for all turns.
+// Something that makes many calls. Each turn of one that only asks begins with another user, as the
+// compiler would else do the same work once for all turns.
 pub trait Job {
-    fn run(&self, turn: u16) -> Tally;
+    // What is done, and what is counted.
+    const NAME: &'static str;
+
+    const COUNTED: &'static str;
+
+    fn run(&mut self, turn: u16) -> Tally;
 }
 
 // A user of a table with so many, and his first role.
@@ -49,8 +56,15 @@ fn ask<R: Reader>(table: &R, user: u16, role: u16, privilege: u16) -> Result<boo
 }
 
 impl<R: Reader> Job for Questions<'_, R> {
-    fn run(&self, turn: u16) -> Tally {
-        let mut tally = Tally { asked: 0, yes: 0 };
+    const NAME: &'static str = "session with one question";
+
+    const COUNTED: &'static str = "yes";
+
+    fn run(&mut self, turn: u16) -> Tally {
+        let mut tally = Tally {
+            asked: 0,
+            counted: 0,
+        };
         for privilege in 128..256u16 {
             for step in 0..self.users {
                 let user = user_of(step.saturating_add(turn), self.users);
@@ -70,12 +84,71 @@ pub struct Closures<'a, R> {
 }
 
 impl<R: Reader> Job for Closures<'_, R> {
-    fn run(&self, turn: u16) -> Tally {
-        let mut tally = Tally { asked: 0, yes: 0 };
+    const NAME: &'static str = "closure of a user";
+
+    const COUNTED: &'static str = "yes";
+
+    fn run(&mut self, turn: u16) -> Tally {
+        let mut tally = Tally {
+            asked: 0,
+            counted: 0,
+        };
         for step in 0..self.users {
             let user = user_of(step.saturating_add(turn), self.users);
-            tally = tally.with(reached(self.table, user).has(64));
+            tally = tally.with(self.table.reached(user).has(64));
         }
         tally
+    }
+}
+
+// Each edge of a store is dropped and put back; counted is what the store holds in the end.
+#[derive(Drop)]
+pub struct Changes<'a, S> {
+    pub store: &'a mut S,
+    pub edges: &'a [Edge],
+}
+
+impl<S: Store> Job for Changes<'_, S> {
+    const NAME: &'static str = "drop and put";
+
+    const COUNTED: &'static str = "held in the end";
+
+    fn run(&mut self, _turn: u16) -> Tally {
+        for edge in self.edges {
+            self.store.drop(*edge);
+            let _ = self.store.put(*edge);
+        }
+        Tally {
+            asked: self.edges.len().saturating_mul(2),
+            counted: self.store.count(),
+        }
+    }
+}
+
+// Each message is sent on an empty link, and then as many are struck; counted is how many waited, without
+// those that still wait in the end.
+#[derive(Drop)]
+pub struct Messages<'a, L> {
+    pub link: &'a mut L,
+    pub messages: &'a [Change],
+}
+
+impl<L: Link> Job for Messages<'_, L> {
+    const NAME: &'static str = "send and strike";
+
+    const COUNTED: &'static str = "came and went";
+
+    fn run(&mut self, _turn: u16) -> Tally {
+        for message in self.messages {
+            let _ = self.link.send(*message);
+        }
+        let waited = self.link.count();
+        for _ in self.messages {
+            self.link.strike();
+        }
+        Tally {
+            asked: self.messages.len().saturating_mul(2),
+            counted: waited.saturating_sub(self.link.count()),
+        }
     }
 }

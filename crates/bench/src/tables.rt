@@ -1,5 +1,6 @@
-use stores::store::Store;
-use terms::edges::Edge;
+use std::alloc::{AllocError, Global};
+use stores::store::{Made, Reader, Store};
+use terms::edges::{Change, Edge};
 
 // How large a table is: as many users as roles; how many roles each user is in; how many of the roles,
 // which stand in one chain, have a short cut, and over how many it goes; how many privileges each has,
@@ -41,7 +42,7 @@ fn put<S: Store>(store: &mut S, from: u16, first: u16, place: u16) {
 }
 
 // Fills an empty store.
-pub fn fill<S: Store>(store: &mut S, size: Size) {
+fn fill<S: Store>(store: &mut S, size: Size) {
     for user in 0..size.roles {
         for k in 0..size.memberships {
             let place = user.saturating_mul(7).saturating_add(k.saturating_mul(13)) % size.roles;
@@ -68,4 +69,35 @@ pub fn fill<S: Store>(store: &mut S, size: Size) {
             put(store, role, 133, k.saturating_mul(2));
         }
     }
+}
+
+// A store with a table of that size.
+pub fn filled<S: Made + Drop>(heap: Global, size: Size) -> Result<S, AllocError> {
+    let mut store = S::new(heap, 512)?;
+    fill(&mut store, size);
+    Ok(store)
+}
+
+// The edges of a table, ascending.
+pub fn edges_of<R: Reader>(heap: Global, table: &R) -> Result<Vec<Edge>, AllocError> {
+    let mut edges = Vec::new(heap);
+    for from in 0..128u16 {
+        for to in 64..256u16 {
+            let edge = Edge { from, to };
+            if table.holds(edge) {
+                edges.push(edge)?;
+            }
+        }
+    }
+    Ok(edges)
+}
+
+// So many messages: the additions of some edges, over and over.
+pub fn messages(heap: Global, edges: &[Edge], count: usize) -> Result<Vec<Change>, AllocError> {
+    edges
+        .iter()
+        .cycle()
+        .take(count)
+        .map(|edge| Change::Add(*edge))
+        .collect(heap)
 }
