@@ -30,11 +30,12 @@ impl Roles {
         }
     }
 
-    // Whether a number is one of the roles.
+    // Whether a number is one of the roles. It is asked of each edge of a policy in turn, so it is computed
+    // without a branch, which would often be guessed wrong.
     pub fn has(self, role: u16) -> bool
         ensures { result ≡ has_role self.word role }
     {
-        Kind::Role.has(role) && (self.word >> (role - 64)) % 2 == 1
+        (role / 64 == 1) & ((self.word >> (role % 64)) % 2 == 1)
     }
 
     // These roles and one more; the same ones where the number is no role.
