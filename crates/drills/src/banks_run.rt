@@ -1,10 +1,13 @@
 use crate::company::OneVault;
-use crate::steps::{ACCEPTED, accepted, answered, begun, deliver, edge, keep, seat, stands_at};
+use crate::steps::{ACCEPTED, accepted, answered, deliver, edge, keep, over, seat, stands_at};
+use banks::growing::{GrowingBank, grown};
 use banks::made::MadeBank;
+use banks::mixed::MixedList;
 use calls::call::Call;
 use centre::begin::begin;
 use faults::centre::CentreFault;
-use memories::makes::{Packed, Ring};
+use memories::slots::Slots;
+use memories::strip::Strip;
 use pairs::pairs::Pairs;
 use precedence::full::Full;
 use rows::rows::Rows;
@@ -12,14 +15,14 @@ use samples::claim::claim;
 use std::alloc::{AllocError, Global};
 use std::test::Fail;
 use vaults::bank::Bank;
-use vaults::vault::Vault;
 
-// The two pairs of makes that the counter has not.
-type TwoVaults = (Vault<Ring, Pairs>, (Vault<Packed, Rows>, ()));
+// Vaults of all four pairs of makes, in turn.
+type AnyBank = MixedList<Slots, Strip, Rows, Pairs>;
 
-// Each of some vaults keeps a privilege of its own, and the role that has all of them has a user.
-fn spread<B: MadeBank + Drop>(heap: Global, count: usize) -> Result<(), Fail> {
-    let mut at = begun::<B, Full>(heap, 4, 2, Full)?;
+// Each of so many vaults keeps a privilege of its own, and the role that has all of them has a user.
+fn spread<B: GrowingBank + Drop>(heap: Global, count: usize) -> Result<(), Fail> {
+    let bank = grown::<B>(heap, 0, count, 4, 2)?;
+    let mut at = over(heap, bank, Full)?;
     for vault in 0..count {
         at = accepted(at, &[keep(vault, own(vault))])?;
     }
@@ -63,12 +66,13 @@ fn spread<B: MadeBank + Drop>(heap: Global, count: usize) -> Result<(), Fail> {
 
 // The privilege that a vault keeps.
 fn own(vault: usize) -> u16 {
-    if vault == 0 { 128 } else { 129 }
+    [128, 129, 130, 131, 132, 133, 134, 135][vault % 8]
 }
 
+// Eight vaults, two of each pair of makes.
 #[test]
 fn every_make(rt: HostRuntime) -> Result<(), Fail> {
-    spread::<TwoVaults>(rt.alloc(), 2)
+    spread::<AnyBank>(rt.alloc(), 8)
 }
 
 // How many vaults of a bank are worked.
@@ -109,5 +113,9 @@ fn inspected(rt: HostRuntime) -> Result<(), Fail> {
         )?;
     }
     claim(worked_with::<()>(heap, 2, 1)? == 0, "a bank without vaults")?;
+    for (count, works) in [(0, 0), (1, 1), (8, 8), (9, 0)] {
+        let bank = grown::<AnyBank>(heap, 1, count, 2, 1)?;
+        claim(worked(heap, bank)? == works, "it has one to eight vaults")?;
+    }
     claim(used::<OneVault>(heap)? == 0, "a bank that was used")
 }

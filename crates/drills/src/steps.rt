@@ -55,7 +55,15 @@ pub fn begun<B: MadeBank + Drop, R: Precedence + Drop>(
     store: usize,
     rule: R,
 ) -> Result<Installation<B, R>, AllocError> {
-    let bank = B::made(heap, link, store)?;
+    over(heap, B::made(heap, link, store)?, rule)
+}
+
+// One over a bank that is made already.
+pub fn over<B: Bank + Drop, R: Precedence + Drop>(
+    heap: Global,
+    bank: B,
+    rule: R,
+) -> Result<Installation<B, R>, AllocError> {
     let naming = begin(heap, bank, rule).map_err(|_| AllocError)?;
     Ok(Installation::Naming(naming))
 }

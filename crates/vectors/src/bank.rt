@@ -1,12 +1,11 @@
-use choices::either::Either;
-use memories::makes::{Packed, Ring};
+use banks::mixed::MixedList;
+use memories::slots::Slots;
+use memories::strip::Strip;
 use pairs::pairs::Pairs;
 use rows::rows::Rows;
-use std::alloc::{AllocError, Global};
-use stores::store::Made;
-use vaults::vault::Vault;
 
-pub type AnyVault = Vault<Either<Ring, Packed>, Either<Rows, Pairs>>;
+// Vaults of any of the four pairs of makes.
+pub type AnyBank = MixedList<Slots, Strip, Rows, Pairs>;
 
 // The bank that a script wants: so many vaults, each with these limits.
 #[derive(Clone, Copy)]
@@ -32,23 +31,4 @@ impl Wanted {
             link_limit: number("--link-limit")?,
         })
     }
-}
-
-fn store<S: Made>(heap: Global, wanted: Wanted) -> Result<S, AllocError> {
-    S::new(heap, wanted.store_limit)
-}
-
-// An empty vault, of one of the four pairs of makes, taken in turn.
-pub fn made(heap: Global, turn: usize, wanted: Wanted) -> Result<AnyVault, AllocError> {
-    let link = if turn % 2 == 0 {
-        Either::First(Ring::made(heap, wanted.link_limit)?)
-    } else {
-        Either::Second(Packed::made(heap, wanted.link_limit)?)
-    };
-    let store = if turn / 2 % 2 == 0 {
-        Either::First(store::<Rows>(heap, wanted)?)
-    } else {
-        Either::Second(store::<Pairs>(heap, wanted)?)
-    };
-    Ok(Vault { link, store })
 }

@@ -5,9 +5,10 @@
 mod bank;
 mod compared;
 
-use crate::bank::{Wanted, made};
+use crate::bank::{AnyBank, Wanted};
 use crate::compared::first_difference;
 use anyhow::Context;
+use banks::growing::grown;
 use centre::begin::begin;
 use centre::installation::Installation;
 use precedence::full::Full;
@@ -15,7 +16,6 @@ use scripts::serving::serve;
 use std::alloc::{AllocError, Global};
 use std::process::ExitCode;
 use std::{fs, io};
-use vaults::bank::Bank;
 use views::state::print_state;
 
 const KINDS: [&str; 4] = ["dense", "limits", "malformed", "tree"];
@@ -27,7 +27,15 @@ struct Outcome {
     state: Vec<u8>,
 }
 
-fn served<B: Bank + Drop>(heap: Global, bank: B, script: &[u8]) -> anyhow::Result<Outcome> {
+// Runs a script over the bank that it wants; which makes its vaults have goes by the script's place.
+fn run(heap: Global, wanted: Wanted, place: usize, script: &[u8]) -> anyhow::Result<Outcome> {
+    let bank = grown::<AnyBank>(
+        heap,
+        place,
+        wanted.vaults,
+        wanted.link_limit,
+        wanted.store_limit,
+    )?;
     let naming = begin(heap, bank, Full).map_err(|_| AllocError)?;
     let mut input = script;
     let mut answers = Vec::new(heap);
@@ -35,20 +43,6 @@ fn served<B: Bank + Drop>(heap: Global, bank: B, script: &[u8]) -> anyhow::Resul
     let mut state = Vec::new(heap);
     print_state(heap, at, &mut state)?;
     Ok(Outcome { answers, state })
-}
-
-// Runs a script over the bank that it wants; which makes its vaults have goes by the script's place.
-fn run(heap: Global, wanted: Wanted, place: usize, script: &[u8]) -> anyhow::Result<Outcome> {
-    let first = made(heap, place, wanted)?;
-    if wanted.vaults == 1 {
-        return served(heap, (first, ()), script);
-    }
-    let second = made(heap, place / 4 + 1, wanted)?;
-    if wanted.vaults == 2 {
-        return served(heap, (first, (second, ())), script);
-    }
-    let third = made(heap, place / 2, wanted)?;
-    served(heap, (first, (second, (third, ()))), script)
 }
 
 // Whether a text is as stored, and how many lines it has; if not, the first difference is shown.
