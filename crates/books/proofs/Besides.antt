@@ -1,19 +1,22 @@
 -- What stands beside an edge of the ledger, by its place; and after an edge goes in or out, or another set stands at a place.
-use Rattle.std.proofs.Common.{◌≡◌, ℕ, zero, suc, ◌<◌, ◌≤◌, Bool, true, false, cond, not, ◌&&◌, ◌||◌, List, [], ◌∷◌, length, get_or, set, sym, refl, ◌∙◌, subst, arith}
+use Rattle.std.proofs.Common.{◌≡◌, ℕ, zero, suc, ◌+◌, ◌<◌, ◌≤◌, ◌⊎◌, ⊎_elim, Bool, true, false, cond, not, ◌&&◌, ◌||◌, List, [], ◌∷◌, length, get_or, set, sym, refl, ◌∙◌, subst, arith}
 use Rattle.std.specs.List.{insert as inserted, remove}
 use Rattle.std.proofs.lemmas.List.{get_or_default}
-use Rattle.std.proofs.lemmas.Bool.{or_parts, or_left, or_right}
+use Rattle.std.proofs.lemmas.Bool.{both_ways, false_from_ne_true, or_parts, or_left, or_right}
 use Rattle.std.proofs.lemmas.Bool.Decides.{nat_tests}
 use Rattle.terms.specs.declared.edges.Edge.{Edge}
 use Rattle.terms.specs.Graph.{same, is_edge}
 use Rattle.model.specs.EdgeSets.{Edges, Ascending, ◌∈◌, ◌∉◌, has, all_edges, no_edge, Found, Absent}
 use Rattle.model.proofs.Members.{delete_gone, edge_member}
+use Rattle.model.proofs.BitRows.{has_none}
 use Rattle.model.proofs.Order.{same_refl, same_equal, before_differs}
 use Rattle.model.proofs.Ascents.{asc_tail, asc_first}
 use Rattle.model.proofs.Steps.{entered, entered_ascends, entered_edges, struck, struck_ascends, struck_edges}
 use Rattle.books.specs.declared.vault_set.VaultSet.{VaultSet}
 use Rattle.books.specs.VaultSets.{nobody, has_vault}
+use Rattle.books.specs.declared.addition.Addition.{Addition}
 use Rattle.books.specs.Ledgers.{beside}
+use Rattle.books.specs.Additions.{rises}
 use Rattle.books.proofs.VaultBits.{has_nobody}
 
 at_place : (s : Edges) (j : ℕ) → j < length s → get_or s j no_edge ∈ s
@@ -25,6 +28,32 @@ at_place (d ∷ s) (suc j) l = or_right (same d (get_or s j no_edge)) (has s (ge
 first_differs : (d : Edge) (s : Edges) (j : ℕ) → Ascending (d ∷ s) → j < length s → same d (get_or s j no_edge) ≡ false
 first_differs d s j up l = before_differs d (get_or s j no_edge) (asc_first d s (get_or s j no_edge) up (at_place s j l))
 
+places_differ : (s : Edges) (i j : ℕ) → Ascending s → i < j → j < length s → same (get_or s i no_edge) (get_or s j no_edge) ≡ false
+places_differ [] i j up l m = absurd (omega arith)
+places_differ (d ∷ s) i zero up l m = absurd (omega arith)
+places_differ (d ∷ s) zero (suc j) up l m = first_differs d s j up (omega arith)
+places_differ (d ∷ s) (suc i) (suc j) up l m = places_differ s i j (asc_tail d s up) (omega arith) (omega arith)
+
+-- where no role is behind an edge, that edge alone rises
+module _ (a : Addition) (s : Edges) (none : a.behind.word ≡ 0) where
+  not_it : (x : Edge) → same a.edge x ≡ false → rises a x ≡ false
+  not_it x h = rw (h, none, has_none x.to) refl
+
+  pub alone_at : (at : ℕ) → Ascending s → Found a.edge s at → (i : ℕ) → i < length s → (i < at) ⊎ (at + 1 ≤ i) → rises a (get_or s i no_edge) ≡ false
+  alone_at at up f i l z = not_it (get_or s i no_edge) (subst (λ (e : Edge). same e (get_or s i no_edge) ≡ false) f.is (⊎_elim before behind z))
+    where
+      before : i < at → same (get_or s at no_edge) (get_or s i no_edge) ≡ false
+      before m = let d = places_differ s i at up m f.within in turned (get_or s i no_edge) (get_or s at no_edge) d
+        where
+          turned : (x y : Edge) → same x y ≡ false → same y x ≡ false
+          turned x y d = grind (arith, nat_tests)
+
+      behind : at + 1 ≤ i → same (get_or s at no_edge) (get_or s i no_edge) ≡ false
+      behind m = places_differ s at i up (omega arith) l
+
+  pub alone_absent : a.edge ∉ s → (i : ℕ) → i < length s → rises a (get_or s i no_edge) ≡ false
+  alone_absent n i l = not_it (get_or s i no_edge) (false_from_ne_true (same a.edge (get_or s i no_edge)) (λ h. both_ways (has s a.edge) n (subst (λ (x : Edge). x ∈ s) (sym (same_equal a.edge (get_or s i no_edge) h)) (at_place s i l))))
+
 -- beside the edge at a place stands the set at that place
 pub beside_at : (s : Edges) (ms : List VaultSet) (j : ℕ) → Ascending s → j < length s → beside s ms (get_or s j no_edge) ≡ get_or ms j nobody
 beside_at [] ms j up l = absurd (omega arith)
@@ -33,7 +62,7 @@ beside_at (d ∷ s) (m ∷ ms) zero up l = rw (same_refl d)
 beside_at (d ∷ s) (m ∷ ms) (suc j) up l = rw (first_differs d s j up (omega arith)) (beside_at s ms j (asc_tail d s up) (omega arith))
 
 -- beside an absent edge nobody does
-beside_absent : (s : Edges) (ms : List VaultSet) (x : Edge) → x ∉ s → beside s ms x ≡ nobody
+pub beside_absent : (s : Edges) (ms : List VaultSet) (x : Edge) → x ∉ s → beside s ms x ≡ nobody
 beside_absent [] ms x n = refl
 beside_absent (d ∷ s) [] x n = refl
 beside_absent (d ∷ s) (m ∷ ms) x n =

@@ -1,20 +1,20 @@
 -- How many edges pass a test that reads the sets beside them: it may be read place by place.
-use Rattle.std.proofs.Common.{◌≡◌, ℕ, suc, Bool, true, false, cond, not, ◌&&◌, List, [], ◌∷◌, length, refl, ap, ◌∙◌, arith}
+use Rattle.std.proofs.Common.{◌≡◌, ℕ, zero, suc, ◌<◌, get_or, Bool, true, false, cond, not, ◌&&◌, List, [], ◌∷◌, length, refl, sym, ap, ◌∙◌, arith}
 use Rattle.std.specs.List.{filter, zip}
 use Rattle.std.proofs.lemmas.Bool.{or_left, or_right}
 use Rattle.terms.specs.declared.edges.Edge.{Edge}
 use Rattle.terms.specs.Graph.{same}
-use Rattle.model.specs.EdgeSets.{Edges, Ascending, has, ◌∈◌}
+use Rattle.model.specs.EdgeSets.{Edges, Ascending, has, ◌∈◌, no_edge}
 use Rattle.model.proofs.Order.{same_refl, before_differs}
 use Rattle.model.proofs.Ascents.{asc_tail, asc_first}
 use Rattle.books.specs.declared.vault_set.VaultSet.{VaultSet}
 use Rattle.books.specs.declared.addition.Addition.{Addition}
 use Rattle.books.specs.VaultSets.{has_vault}
-use Rattle.books.specs.Ledgers.{beside}
-use Rattle.books.specs.Additions.{rises}
+use Rattle.books.specs.Ledgers.{Ledger, beside, is_told}
+use Rattle.books.specs.Additions.{rises, due_of}
 
 -- tests that agree on the edges of a list choose the same ones
-filter_agrees : (p q : Edge → Bool) (s : Edges) → ((x : Edge) → x ∈ s → p x ≡ q x) → filter p s ≡ filter q s
+pub filter_agrees : (p q : Edge → Bool) (s : Edges) → ((x : Edge) → x ∈ s → p x ≡ q x) → filter p s ≡ filter q s
 filter_agrees p q [] h = refl
 filter_agrees p q (d ∷ s) h =
     by (p d) (q d) (h d (or_left (same d d) (has s d) (same_refl d))) (filter_agrees p q s (λ x m. h x (or_right (same d x) (has s x) m)))
@@ -64,3 +64,11 @@ count_due a (d ∷ s) [] k q up = absurd (omega arith)
 count_due a (d ∷ s) (m ∷ ms) k q up =
     length_cond (rises a d && not (has_vault m k)) (d, m) (filter (λ p. rises a p.0 && not (has_vault p.1 k)) (zip s ms))
     ∙ passing_first (λ x n. rises a x && not (has_vault n k)) d s m ms _ up (count_due a s ms k (omega arith) (asc_tail d s up))
+
+-- where no edge rises nothing is due
+pub due_none : (a : Addition) (l : Ledger) (k : ℕ) → ((i : ℕ) → i < length l.edges → rises a (get_or l.edges i no_edge) ≡ false) → 0 ≡ length (due_of a l k)
+due_none a l k none = sym (ap length (nothing (λ x. rises a x && not (is_told l k x)) l.edges (λ i m. ap (λ (b : Bool). b && not (is_told l k (get_or l.edges i no_edge))) (none i m))))
+  where
+    nothing : (p : Edge → Bool) (s : Edges) → ((i : ℕ) → i < length s → p (get_or s i no_edge) ≡ false) → filter p s ≡ []
+    nothing p [] h = refl
+    nothing p (d ∷ s) h = rw (h zero (omega arith)) (nothing p s (λ i m. h (suc i) (omega arith)))

@@ -8,6 +8,7 @@ use Rattle.terms.specs.declared.edges.Change.{Change}
 use Rattle.terms.specs.Graph.{edge, same, is_user, is_role, is_user_privilege}
 use Rattle.model.specs.EdgeSets.{Edges, has, all_edges, ◌∈◌}
 use Rattle.model.specs.BitRows.{bit, has_role}
+use Rattle.model.proofs.BitRows.{has_none}
 use Rattle.model.proofs.Order.{same_refl, same_equal}
 use Rattle.meaning.specs.Paths.{Reach, here, step}
 use Rattle.meaning.specs.Privileges.{Names, named}
@@ -66,6 +67,11 @@ module _ (s : Edges) (v w : ℕ) (test : ℕ → Bool) (f : all_edges s ≡ true
               let l = leaves_role s f x p (n p h) e in
               let o : is_role x ≡ true = grind (arith, nat_tests) in
               edge_some (leads_to w test) s (edge x p) e (and_from (has_role w x) (test p) ((c x o).1 r) h)
+
+-- from no role leads an edge
+pub none_lead : (test : ℕ → Bool) (s : Edges) (w : ℕ) → w ≡ 0 → list_any (leads_to w test) s ≡ false
+none_lead test [] w z = refl
+none_lead test (d ∷ s) w z = rw (z, has_none d.from) (none_lead test s w z)
 
 -- whether a vertex concerns a place that keeps these privileges
 pub concerned_by : (s : Edges) (v w : ℕ) (kept : ℕ → Bool) → all_edges s ≡ true

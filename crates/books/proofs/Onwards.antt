@@ -1,5 +1,6 @@
 -- For each role the roles that it reaches: with one edge more, without one that is not between roles, and from several roles.
-use Rattle.std.proofs.Common.{◌≡◌, ℕ, ◌+◌, ◌^◌, ◌<◌, ◌≤◌, Bool, true, false, cond, not, ◌&&◌, ◌⊎◌, eqb, nat_lt, bit_or, sym, refl, ◌∙◌, ap, subst, inl, inr, ⊎_elim, arith}
+use Rattle.std.proofs.Common.{◌≡◌, ℕ, ◌+◌, ◌^◌, ◌<◌, ◌≤◌, Bool, true, false, cond, not, ◌||◌, ◌⊎◌, eqb, nat_lt, bit_or, [], sym, refl, ◌∙◌, ap, subst, inl, inr, ⊎_elim, arith}
+use Rattle.std.specs.Int.Bits.{or_zero_r}
 use Rattle.std.proofs.lemmas.Bool.{both_ways, true_from_ne_false, not_from_false, eqb-true, and_parts, and_from, or_cases}
 use Rattle.std.proofs.lemmas.Bool.Decides.{nat_tests, same_from_decides}
 use Rattle.terms.specs.declared.edges.Edge.{Edge}
@@ -14,7 +15,7 @@ use Rattle.meaning.proofs.Paths.{reach_mono, reach_split, reach_insert, reach_ne
 use Rattle.graph.specs.Searches.{ReachesRoles, FromRoles, Closure}
 use Rattle.graph.proofs.Closures.{a_role, or_has_left, or_has_right, role_step, to_role, last_edge, still_word}
 use Rattle.books.specs.declared.role_paths.RolePaths.{RolePaths}
-use Rattle.books.specs.Onwards.{onward, Tells, joined}
+use Rattle.books.specs.Onwards.{onward, Tells, joined, Renewed}
 
 -- what a role reaches and leads on is a role
 on_to_role : (s : Edges) → all_edges s ≡ true → {v y : ℕ} → is_role v ≡ true → Reach s v y → y < 128 → is_role y ≡ true
@@ -84,32 +85,65 @@ pub joined_tells : (s t : Edges) (e : Edge) (p q : RolePaths) → all_edges s �
     → ((v : ℕ) → is_role v ≡ true → onward q v ≡ joined p e v) → Tells t q
 joined_tells s t e p q f g k is j = rw is (from_paths (insert e s) q (joined_telling s e p q f g (by_paths s p k) j))
 
--- an edge that is not between roles is taken out
-apart_telling : (s : Edges) (e : Edge) (p : RolePaths) → all_edges (delete e s) ≡ true → is_edge e ≡ true
-    → (is_role e.from && is_role e.to) ≡ false → Telling s p → Telling (delete e s) p
-apart_telling s e p f g n t v r x o = (λ h. away ((t v r x o).0 h), λ y. (t v r x o).1 (reach_mono (delete_old e s) y))
+-- an edge that leads to no role makes no more
+pub aside_tells : (s t : Edges) (e : Edge) (p : RolePaths) → all_edges s ≡ true → is_edge e ≡ true → is_role e.to ≡ false → Tells s p → t ≡ insert e s → Tells t p
+aside_tells s t e p f g n k is = joined_tells s t e p p f g k is (λ v r. by (has_role (onward p v) e.from) (onward p v))
   where
-    left : (y : Edge) → y ∈ s → (e ≡ y) ⊎ (y ∈ delete e s)
-    left y h = by (same e y) refl
-      where
-        by : (b : Bool) → same e y ≡ b → (e ≡ y) ⊎ (y ∈ delete e s)
-        by true q = inl (same_equal e y q)
-        by false q = inr (delete_else e s y q ∙ h)
+    none : onward p e.to ≡ 0
+    none = rw n refl
 
-    away : Reach s v x → Reach (delete e s) v x
-    away y = ⊎_elim (λ z. z) not_through (reach_split e left y)
-      where
-        not_through : Reach (delete e s) v e.from × Reach (delete e s) e.to x → Reach (delete e s) v x
-        not_through (a, b) =
-            let i = begins_at_role (delete e s) e f g v r a in
-            let j = ends_at_role (delete e s) e f g x o b in
-            absurd (both_ways (is_role e.from && is_role e.to) n (and_from (is_role e.from) _ i j))
+    by : (b : Bool) (w : ℕ) → w ≡ cond b (bit_or w (onward p e.to)) w
+    by true w = sym (ap (bit_or w) none ∙ or_zero_r w)
+    by false w = refl
+
+-- An edge is taken out: a path goes on without it, or goes through it
+module _ (s : Edges) (e : Edge) (p : RolePaths) (f : all_edges (delete e s) ≡ true) (g : is_edge e ≡ true) where
+  without : {v x : ℕ} → Reach s v x → Reach (delete e s) v x ⊎ (Reach (delete e s) v e.from × Reach (delete e s) e.to x)
+  without y = reach_split e left y
+    where
+      left : (y : Edge) → y ∈ s → (e ≡ y) ⊎ (y ∈ delete e s)
+      left y h = by (same e y) refl
+        where
+          by : (b : Bool) → same e y ≡ b → (e ≡ y) ⊎ (y ∈ delete e s)
+          by true q = inl (same_equal e y q)
+          by false q = inr (delete_else e s y q ∙ h)
+
+  -- if it leads to no role, then no path between roles goes through it
+  apart_telling : is_role e.to ≡ false → Telling s p → Telling (delete e s) p
+  apart_telling n t v r x o = (
+    λ h. ⊎_elim (λ z. z) (λ (a, b). absurd (both_ways (is_role e.to) n (ends_at_role (delete e s) e f g x o b))) (without ((t v r x o).0 h)),
+    λ y. (t v r x o).1 (reach_mono (delete_old e s) y),
+  )
+
+  -- nor does one from a role that did not reach its beginning
+  renewed_telling : (q : RolePaths) → Telling s p → Renewed (delete e s) e.from p 128 q → Telling (delete e s) q
+  renewed_telling q t i v r = by (has_role (onward p v) e.from) refl
+    where
+      by : (b : Bool) → has_role (onward p v) e.from ≡ b → ReachesRoles (delete e s) v (onward q v)
+      by true h = let l : v < 128 = grind (arith, nat_tests) in (i v r).0 h l
+      by false h = subst (ReachesRoles (delete e s) v) (sym ((i v r).1 (inl h))) old
+        where
+          through : {x : ℕ} → Reach (delete e s) v e.from × Reach (delete e s) e.to x → ⊥
+          through (a, b) =
+              let m = begins_at_role (delete e s) e f g v r a in
+              both_ways (has_role (onward p v) e.from) h ((t v r e.from m).1 (reach_mono (delete_old e s) a))
+
+          old : ReachesRoles (delete e s) v (onward p v)
+          old x o =
+              (λ k. ⊎_elim (λ z. z) (λ z. absurd (through z)) (without ((t v r x o).0 k)), λ y. (t v r x o).1 (reach_mono (delete_old e s) y))
 
 pub apart_tells : (s t : Edges) (e : Edge) (p : RolePaths) → all_edges t ≡ true → is_edge e ≡ true
-    → (is_role e.from && is_role e.to) ≡ false → Tells s p → t ≡ delete e s → Tells t p
+    → is_role e.to ≡ false → Tells s p → t ≡ delete e s → Tells t p
 apart_tells s t e p f g n k is =
     subst (λ (u : Edges). Tells u p) (sym is)
     (from_paths (delete e s) p (apart_telling s e p (subst (λ (u : Edges). all_edges u ≡ true) is f) g n (by_paths s p k)))
+
+pub renewed_tells : (s t : Edges) (e : Edge) (p q : RolePaths) → all_edges t ≡ true → is_edge e ≡ true
+    → Renewed t e.from p 128 q → Tells s p → t ≡ delete e s → Tells t q
+renewed_tells s t e p q f g i k is =
+    subst (λ (u : Edges). Tells u q) (sym is)
+    (from_paths (delete e s) q
+    (renewed_telling s e p (subst (λ (u : Edges). all_edges u ≡ true) is f) g q (by_paths s p k) (subst (λ (u : Edges). Renewed u e.from p 128 q) is i)))
 
 -- From several roles: those of w that are done, and what was found behind them.
 pub record Gathering (p : RolePaths) (w found done : ℕ) : Type 0 where
@@ -177,12 +211,49 @@ module _ (p q : RolePaths) (m w : ℕ) (d : (v : ℕ) → is_role v ≡ true →
           let l : nat_lt v m ≡ nat_lt v (m + 1) = grind (arith, nat_tests) in
           else_set v r h ∙ i v r ∙ ap (λ (b : Bool). cond b (f v) (g v)) l
 
-  pub next_reached : (s : Edges) → ReachesRoles s m w → ((v : ℕ) → is_role v ≡ true → v < m → ReachesRoles s v (onward p v))
-      → (v : ℕ) → is_role v ≡ true → v < m + 1 → ReachesRoles s v (onward q v)
-  next_reached s c i v r l = by (eqb m v) refl
+  -- what holds of each role before it, and of this one, holds of each before the next
+  pub next_holds : (P : ℕ → ℕ → Type 0) → P m w → ((v : ℕ) → is_role v ≡ true → v < m → P v (onward p v))
+      → (v : ℕ) → is_role v ≡ true → v < m + 1 → P v (onward q v)
+  next_holds P c i v r l = by (eqb m v) refl
     where
-      by : (b : Bool) → eqb m v ≡ b → ReachesRoles s v (onward q v)
-      by true h = subst (λ (n : ℕ). ReachesRoles s v n) (sym (here_set v r h)) (subst (λ (n : ℕ). ReachesRoles s n w) (eqb-true m v h) c)
+      by : (b : Bool) → eqb m v ≡ b → P v (onward q v)
+      by true h = subst (λ (n : ℕ). P v n) (sym (here_set v r h)) (subst (λ (n : ℕ). P n w) (eqb-true m v h) c)
       by false h =
           let k : v < m = grind (arith, nat_tests) in
-          subst (λ (n : ℕ). ReachesRoles s v n) (sym (else_set v r h)) (i v r k)
+          subst (λ (n : ℕ). P v n) (sym (else_set v r h)) (i v r k)
+
+  -- a role is searched from anew if it reached the vertex
+  pub renews_more : (o : RolePaths) (t : Edges) (from : ℕ) → (has_role (onward p m) from ≡ true → ReachesRoles t m w)
+      → (has_role (onward p m) from ≡ false → w ≡ onward p m) → Renewed t from o m p → Renewed t from o (m + 1) q
+  renews_more o t from new old i v r = by (eqb m v) refl
+    where
+      by : (b : Bool) → eqb m v ≡ b → (has_role (onward o v) from ≡ true → v < m + 1 → ReachesRoles t v (onward q v))
+          × ((has_role (onward o v) from ≡ false) ⊎ (m + 1 ≤ v) → onward q v ≡ onward o v)
+      by true h = (
+        λ k l. subst (λ (n : ℕ). ReachesRoles t v n) (sym (here_set v r h)) (subst (λ (n : ℕ). ReachesRoles t n w) e (new (before true k))),
+        λ z. here_set v r h ∙ ⊎_elim (λ n. old (before false n) ∙ was) (λ (l : m + 1 ≤ v). absurd (omega (arith, e))) z,
+      )
+        where
+          e : m ≡ v
+          e = eqb-true m v h
+
+          was : onward p m ≡ onward o v
+          was = let l : m ≤ v = omega (arith, e) in ap (onward p) e ∙ (i v r).1 (inr l)
+
+          before : (b : Bool) → has_role (onward o v) from ≡ b → has_role (onward p m) from ≡ b
+          before b k = subst (λ (n : ℕ). has_role n from ≡ b) (sym was) k
+      by false h = (
+        λ k l. let z : v < m = grind (arith, nat_tests) in subst (ReachesRoles t v) (sym (else_set v r h)) ((i v r).0 k z),
+        λ z. else_set v r h ∙ (i v r).1 (⊎_elim (λ n. inl n) (λ (l : m + 1 ≤ v). inr (omega arith)) z),
+      )
+
+-- before the first role
+pub renews_first : (o : RolePaths) (t : Edges) (from : ℕ) → Renewed t from o 64 o
+renews_first o t from v r = (λ h l. absurd (grind (arith, nat_tests)), λ z. refl)
+
+-- without edges
+pub alone_tells : (p : RolePaths) → ((v : ℕ) → is_role v ≡ true → onward p v ≡ bit_or 0 (role_word v)) → Tells [] p
+alone_tells p h v x r o = ap (λ (n : ℕ). has_role n x) (h v r) ∙ has_with 0 v x r ∙ by (has_role 0 x) (has_none x)
+  where
+    by : (b : Bool) → b ≡ false → (b || eqb x v) ≡ eqb v x
+    by b z = grind (arith, nat_tests)

@@ -1,4 +1,5 @@
 pub mod VaultSets
+pub mod VaultCounts
 pub mod Keepings
 pub mod Ledgers
 pub mod Books

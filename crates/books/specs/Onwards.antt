@@ -1,11 +1,12 @@
 -- For each role the roles that it reaches.
-use Rattle.std.specs.Prelude.{◌≡◌, ℕ, ◌-◌, true, cond, if◌then◌else◌, slice_index_or, bit_or}
+use Rattle.std.specs.Prelude.{◌≡◌, ℕ, ◌-◌, ◌<◌, ◌≤◌, true, false, ◌⊎◌, cond, if◌then◌else◌, slice_index_or, bit_or}
 use Rattle.terms.specs.declared.edges.Edge.{Edge}
 use Rattle.terms.specs.Graph.{is_role}
 use Rattle.model.specs.EdgeSets.{Edges}
 use Rattle.model.specs.declared.roles.Roles.{Roles}
 use Rattle.model.specs.BitRows.{has_role}
 use Rattle.meaning.specs.Paths.{reaches}
+use Rattle.graph.specs.Searches.{ReachesRoles}
 use Rattle.books.specs.declared.role_paths.RolePaths.{RolePaths}
 
 abbrev pub no_roles : Roles
@@ -22,3 +23,9 @@ Tells s p = (v x : ℕ) → is_role v ≡ true → is_role x ≡ true → has_ro
 -- with one edge more: whatever leads to its one end goes on from the other
 abbrev pub joined : RolePaths → Edge → ℕ → ℕ
 joined p e v = cond (has_role (onward p v) e.from) (bit_or (onward p v) (onward p e.to)) (onward p v)
+
+-- q has what t reaches from the roles before m that reached a vertex in p, and what p had from the others
+abbrev pub Renewed : Edges → ℕ → RolePaths → ℕ → RolePaths → Type 0
+Renewed t from p m q = (v : ℕ) → is_role v ≡ true
+    → (has_role (onward p v) from ≡ true → v < m → ReachesRoles t v (onward q v))
+    × ((has_role (onward p v) from ≡ false) ⊎ (m ≤ v) → onward q v ≡ onward p v)

@@ -24,12 +24,15 @@ pub struct Addition {
     pub concerned: VaultSet,
 }
 
-// The vaults that keep a privilege which a vertex reaches.
+// The vaults that keep a privilege which a vertex reaches; only by way of roles does one reach another.
 fn concerned(policy: &Policy, keeping: &Keeping, vertex: u16) -> VaultSet
     ensures { (k : ℕ) → has_vault result k ≡ concerns (policy_edges policy.now) (keeps keeping.now k) vertex 256 }
 {
     let roles = policy.reached(vertex);
     let mut vaults = keeping.of(vertex);
+    if roles == Roles::none() {
+        return vaults;
+    }
     for edge in policy.edges() {
         if roles.has(edge.from) {
             vaults = vaults.union(keeping.of(edge.to));
@@ -57,6 +60,6 @@ impl Addition {
     pub fn rises(&self, edge: Edge) -> bool
         ensures { result ≡ rises self.now edge }
     {
-        self.edge == edge || self.behind.has(edge.to)
+        (self.edge == edge) | self.behind.has(edge.to)
     }
 }

@@ -6,4 +6,5 @@ pub mod keeping;
 pub mod policy;
 pub mod rights;
 pub mod role_paths;
+pub mod vault_counts;
 pub mod vault_set;

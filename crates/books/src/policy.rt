@@ -1,8 +1,9 @@
-ghost use Rattle.std.specs.Prelude.{◌≡◌, ℕ, ◌<◌, ◌≤◌, true, false, not, ◌&&◌, ◌||◌, [], length, filter, IfOk, MatchResult, nat_lt, slice_index_or, vec_len, vec_capacity};
+ghost use Rattle.std.specs.Prelude.{◌≡◌, ℕ, ◌<◌, ◌≤◌, true, false, not, ◌&&◌, ◌||◌, ◌⊎◌, [], length, filter, IfOk, MatchResult, nat_lt, slice_index_or, vec_len, vec_capacity};
 ghost use Rattle.std.specs.List.{zip};
 ghost use Rattle.terms.specs.Graph.{is_edge, same};
 ghost use Rattle.model.specs.EdgeSets.{Found, Absent, ascends, all_edges, insert, delete, no_edge};
 ghost use Rattle.books.specs.VaultSets.{has_vault};
+ghost use Rattle.books.specs.VaultCounts.{Counted};
 ghost use Rattle.books.specs.Ledgers.{is_told, told_of, entry_answer, with_entry};
 ghost use Rattle.books.specs.Additions.{rises};
 ghost use Rattle.books.specs.Onwards.{Tells};
@@ -10,6 +11,7 @@ ghost use Rattle.books.specs.Onwards.{Tells};
 use crate::addition::Addition;
 use crate::edge_list::EdgeList;
 use crate::role_paths::RolePaths;
+use crate::vault_counts::VaultCounts;
 use crate::vault_set::VaultSet;
 use faults::centre::CentreFault;
 use graph::graph::{Graph, Paths};
@@ -21,29 +23,23 @@ use terms::edges::Edge;
 // How many edges a policy may have.
 const MOST: usize = 512;
 
-// The edges of the policy, ascending, and beside each the vaults that are told of it; and for each role
-// the roles that it reaches, kept so that no question searches. Its room is reserved when it is made. It
-// means a ledger.
+// The edges of the policy, ascending, and beside each the vaults that are told of it; and what no question
+// is to search for: for each role the roles that it reaches, and of how many edges each vault is told. Its
+// room is reserved when it is made. It means a ledger.
 #[derive(Drop)]
 pub struct Policy {
     pub(crate) edges: Vec<Edge>,
     pub(crate) told: Vec<VaultSet>,
     pub(crate) paths: RolePaths,
+    pub(crate) counts: VaultCounts,
     ghost sorted: { ascends edges.items ≡ true },
     ghost proper: { all_edges edges.items ≡ true },
     ghost few: { vec_len edges ≤ 512 },
     ghost paired: { vec_len told ≡ vec_len edges },
     ghost known: { Tells edges.items paths },
+    ghost counted: { Counted told.items counts },
     ghost reserved: { 512 ≤ vec_capacity edges },
     ghost beside: { 512 ≤ vec_capacity told },
-}
-
-// How many of some sets have a vault.
-fn having(sets: &[VaultSet], vault: usize) -> usize
-    ensures count { result ≡ length (filter (λ m. has_vault m vault) sets.now) }
-    ensures few { result ≤ length sets.now }
-{
-    sets.iter().filter(|set| set.has(vault)).count()
 }
 
 // How many of some edges rise where the set beside them lacks a vault.
@@ -69,8 +65,14 @@ impl Policy {
     {
         let edges = Vec::with_capacity(heap, MOST)?;
         let told = Vec::with_capacity(heap, MOST)?;
-        let paths = RolePaths::of(&EdgeList { edges: &[] });
-        Ok(Policy { edges, told, paths })
+        let paths = RolePaths::alone();
+        let counts = VaultCounts::none();
+        Ok(Policy {
+            edges,
+            told,
+            paths,
+            counts,
+        })
     }
 
     pub fn edges(&self) -> &[Edge]
@@ -104,7 +106,7 @@ impl Policy {
     {
         let _ = self.edges.insert(at, edge);
         let _ = self.told.insert(at, VaultSet::none());
-        self.paths = self.paths.with(edge);
+        self.paths.gain(edge);
     }
 
     // Takes the edge out that stands at a place.
@@ -115,9 +117,11 @@ impl Policy {
         ensures edges { policy_edges self.new ≡ delete edge (policy_edges self.old) }
         ensures told { (k : ℕ) (x : Edge) → is_told (ledger self.new) k x ≡ (not (same edge x) && is_told (ledger self.old) k x) }
     {
+        let told = self.told.remove(at);
+        self.counts.fall(told);
         let _ = self.edges.remove(at);
-        self.paths = self.paths.without(edge, &EdgeList { edges: &self.edges });
-        self.told.remove(at)
+        self.paths.lose(edge, &EdgeList { edges: &self.edges });
+        told
     }
 
     // Enters an edge that nobody is told of, if it is not there already. Refused with 2 unless it is an
@@ -167,6 +171,7 @@ impl Policy {
             Some(told) => {
                 let newly = vaults.without(*told);
                 *told = told.union(vaults);
+                self.counts.rise(newly);
                 newly
             }
             None => VaultSet::none(),
@@ -178,7 +183,24 @@ impl Policy {
         ensures count { result ≡ length (told_of (ledger self.now) vault) }
         ensures few { result ≤ 512 }
     {
-        having(&self.told, vault)
+        self.counts.of(vault)
+    }
+
+    // From which place on, and up to which, the edges stand that may rise: all places, or, where no role leads
+    // to where the new edge comes from, as to any user, its own place alone.
+    #[tactic(auto, using(crate::proofs::Besides::alone_at, crate::proofs::Besides::alone_absent))]
+    pub fn rising(&self, addition: &Addition) -> (usize, usize)
+        ensures order { result.0 ≤ result.1 }
+        ensures within { result.1 ≤ length (ledger self.now).edges }
+        ensures outside { (i : ℕ) → i < length (ledger self.now).edges → (i < result.0) ⊎ (result.1 ≤ i) → rises addition.now (slice_index_or (ledger self.now).edges i no_edge) ≡ false }
+    {
+        if addition.behind != Roles::none() {
+            return (0, self.edges.len());
+        }
+        match self.list().seek(addition.edge) {
+            Ok(at) => (at, at + 1),
+            Err(_) => (0, 0),
+        }
     }
 
     // How many edges rise that a vault is not told of.
@@ -186,6 +208,10 @@ impl Policy {
         ensures count { result ≡ length (due_of addition.now (ledger self.now) vault) }
         ensures few { result ≤ 512 }
     {
+        let (start, end) = self.rising(addition);
+        if start == end {
+            return 0;
+        }
         due(&self.edges, &self.told, addition, vault)
     }
 }

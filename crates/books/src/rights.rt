@@ -42,7 +42,7 @@ fn leads<R: Precedence>(
 ) -> bool
     ensures { result ≡ leads_to roles.word (stands_at (λ d. R.over rule.now names.now (policy_edges policy.now) d wanted) names.now) edge }
 {
-    edge.to >= 256 && roles.has(edge.from) && stands(rule, names, policy, edge.to, wanted)
+    (edge.to >= 256) & roles.has(edge.from) && stands(rule, names, policy, edge.to, wanted)
 }
 
 // Whether one of some roles has an edge to a declared privilege that stands over a change.

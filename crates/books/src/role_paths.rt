@@ -1,8 +1,8 @@
-ghost use Rattle.std.specs.Prelude.{◌≡◌, true, cond, bit_or};
+ghost use Rattle.std.specs.Prelude.{◌≡◌, [], true, false, cond, bit_or};
 ghost use Rattle.terms.specs.Graph.{is_edge, is_role};
 ghost use Rattle.model.specs.EdgeSets.{Edges, all_edges, insert, delete};
 ghost use Rattle.model.specs.BitRows.{has_role};
-ghost use Rattle.graph.specs.Searches.{Closure};
+ghost use Rattle.graph.specs.Searches.{Closure, ReachesRoles};
 
 use crate::edge_list::EdgeList;
 use graph::graph::Graph;
@@ -22,6 +22,18 @@ fn gone_on(roles: Roles, from: u16, onward: Roles) -> Roles
     }
 }
 
+// The roles that a role reaches: as they are written down, or if they have a vertex, searched for.
+fn searched<G: Graph>(graph: &G, role: u16, roles: Roles, vertex: u16) -> Roles
+    ensures again { has_role roles.word vertex ≡ true → ReachesRoles (G.edges graph.now) role result.word }
+    ensures kept { has_role roles.word vertex ≡ false → result.word ≡ roles.word }
+{
+    if roles.has(vertex) {
+        search::closure(graph, search::first(graph, role))
+    } else {
+        roles
+    }
+}
+
 // For each role the roles that it reaches, itself among them.
 #[derive(Drop)]
 pub struct RolePaths {
@@ -30,7 +42,7 @@ pub struct RolePaths {
 
 impl RolePaths {
     ghost use Rattle.std.specs.Prelude.{ℕ, ◌==◌};
-    ghost use Rattle.books.specs.Onwards.{onward, Tells, joined};
+    ghost use Rattle.books.specs.Onwards.{onward, Tells, joined, Renewed};
 
     // The roles behind a role; none where it is no role.
     pub(crate) fn behind(&self, role: u16) -> Roles
@@ -51,47 +63,57 @@ impl RolePaths {
         }
     }
 
-    // Those of a graph.
-    pub(crate) fn of<G: Graph>(graph: &G) -> RolePaths
-        ensures { Tells (G.edges graph.now) result }
+    // Those of the graph without edges: a role reaches itself alone.
+    pub(crate) fn alone() -> RolePaths
+        ensures { Tells [] result }
     {
         let mut paths = RolePaths {
             rows: [Roles::none(); 64],
         };
         for role in 64..128u16 {
-            paths.set(role, search::closure(graph, search::first(graph, role)));
+            paths.set(role, Roles::none().with(role));
         }
         paths
     }
 
-    // These, with one edge more.
-    fn joined(&self, edge: Edge) -> RolePaths
-        ensures { (v : ℕ) → is_role v ≡ true → onward result v ≡ joined self.now edge v }
+    // Writes down that whatever reaches the beginning of an edge goes on from its end.
+    fn join(&mut self, edge: Edge)
+        ensures { (v : ℕ) → is_role v ≡ true → onward self.new v ≡ joined self.old edge v }
     {
         let onward = self.behind(edge.to);
-        let mut paths = RolePaths { rows: self.rows };
         for role in 64..128u16 {
-            paths.set(role, gone_on(self.behind(role), edge.from, onward));
+            self.set(role, gone_on(self.behind(role), edge.from, onward));
         }
-        paths
     }
 
-    // Those of a graph with one edge more.
-    pub(crate) fn with(&self, edge: Edge) -> RolePaths
-        ensures { (s t : Edges) → all_edges s ≡ true → is_edge edge ≡ true → Tells s self.now → t ≡ insert edge s → Tells t result }
+    // A graph gains an edge. Only one that leads to a role makes more paths between roles.
+    #[tactic(auto, using(crate::proofs::Onwards::aside_tells))]
+    pub(crate) fn gain(&mut self, edge: Edge)
+        ensures { (s t : Edges) → all_edges s ≡ true → is_edge edge ≡ true → Tells s self.old → t ≡ insert edge s → Tells t self.new }
     {
-        self.joined(edge)
+        if Kind::Role.has(edge.to) {
+            self.join(edge);
+        }
     }
 
-    // Those of a graph without an edge, where the others are listed. Only an edge between roles is missed.
-    #[tactic(auto, using(crate::proofs::Onwards::apart_tells))]
-    pub(crate) fn without(&self, edge: Edge, others: &EdgeList) -> RolePaths
-        ensures { (s : Edges) → is_edge edge ≡ true → Tells s self.now → others.now.edges.now ≡ delete edge s → Tells others.now.edges.now result }
+    // Searches a graph anew from the roles that are written down to reach a vertex.
+    #[tactic(auto, using(crate::proofs::Onwards::renews_first, crate::proofs::Onwards::renews_more))]
+    fn renew<G: Graph>(&mut self, vertex: u16, graph: &G)
+        ensures { Renewed (G.edges graph.now) vertex self.old 128 self.new }
     {
-        if Kind::Role.has(edge.from) && Kind::Role.has(edge.to) {
-            RolePaths::of(others)
-        } else {
-            RolePaths { rows: self.rows }
+        for role in 64..128u16 {
+            self.set(role, searched(graph, role, self.behind(role), vertex));
+        }
+    }
+
+    // A graph loses an edge; the others are listed. Only what reached its beginning may have lost a path, and
+    // only if it leads to a role.
+    #[tactic(auto, using(crate::proofs::Onwards::apart_tells, crate::proofs::Onwards::renewed_tells))]
+    pub(crate) fn lose(&mut self, edge: Edge, others: &EdgeList)
+        ensures { (s : Edges) → is_edge edge ≡ true → Tells s self.old → others.now.edges.now ≡ delete edge s → Tells others.now.edges.now self.new }
+    {
+        if Kind::Role.has(edge.to) {
+            self.renew(edge.from, others);
         }
     }
 

@@ -1,10 +1,12 @@
-use Rattle.std.proofs.Common.{not, ◌&&◌, List, length, ap, ◌∙◌, arith}
+use Rattle.std.proofs.Common.{◌≤◌, ⊎_elim, inl, inr, not, ◌&&◌, List, length, sym, ap, ◌∙◌, arith}
 use Rattle.std.specs.List.{filter, zip}
+use Rattle.std.proofs.lemmas.Bool.{cases_lt}
 use Rattle.model.specs.EdgeSets.{Edges}
 use Rattle.books.specs.declared.vault_set.VaultSet.{VaultSet}
 use Rattle.books.specs.VaultSets.{has_vault}
+use Rattle.books.specs.Books.{ledger}
 use Rattle.books.specs.Additions.{rises}
-use Rattle.books.proofs.Counts.{count_due}
+use Rattle.books.proofs.Counts.{count_due, due_none}
 use Rattle.books.proofs.policy.Policy.due_count.Goals as goal
 
 pub returns-clause-count : goal.returns-clause-count
@@ -14,3 +16,8 @@ returns-clause-count c =
     let n = λ (s : Edges) (ms : List VaultSet). length (filter (λ q. rises a q.0 && not (has_vault q.1 c.args.vault)) (zip s ms)) in
     c.due.ensures.count ∙ ap (λ (s : Edges). n s c.deref-2.result.now) c.deref.ensures.value ∙ ap (n p.edges.items) c.deref-2.ensures.value
     ∙ count_due a p.edges.items p.told.items c.args.vault (omega arith) p.sorted
+
+pub returns-then-start-end-clause-count : goal.returns-then-start-end-clause-count
+returns-then-start-end-clause-count c =
+    due_none c.args.addition.now (ledger c.args.self.now) c.args.vault
+    (λ i l. c.rising-start.ensures.outside i l (⊎_elim inl (λ (m : c.rising-start.result.0 ≤ i). inr (omega (arith, c.if-start-end.true))) (cases_lt i c.rising-start.result.0)))
