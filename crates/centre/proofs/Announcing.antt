@@ -1,5 +1,6 @@
 -- Going through the edges of the policy, and sending those that rise.
-use Rattle.std.proofs.Common.{◌≡◌, ℕ, zero, suc, ◌+◌, ◌<◌, Bool, true, false, cond, not, ◌&&◌, ◌||◌, List, [], ◌∷◌, ◌++◌, map, length, get_or, take, filter, sym, refl, ap, ◌∙◌, subst, arith}
+use Rattle.std.proofs.Common.{◌≡◌, ℕ, zero, suc, ◌+◌, ◌-◌, ◌<◌, ◌≤◌, Bool, true, false, cond, not, ◌&&◌, ◌||◌, List, [], ◌∷◌, ◌++◌, map, length, get_or, take, filter, sym, refl, ap, ◌∙◌, subst, arith}
+use Rattle.std.proofs.Math.Bool.{or_assoc, or-false}
 use Rattle.std.proofs.Math.Seq.{take-length}
 use Rattle.std.proofs.lemmas.Bool.{false≢true, or_left, or_right}
 use Rattle.std.proofs.lemmas.List.{take_more}
@@ -46,23 +47,15 @@ map_append (d ∷ s) t = ap (λ (ms : List Change). Add d ∷ ms) (map_append s 
 
 -- The edges in front of a place
 
-or_assoc : (p q r : Bool) → (p || (q || r)) ≡ ((p || q) || r)
-or_assoc true q r = refl
-or_assoc false q r = refl
-
 has_append : (s t : Edges) (x : Edge) → has (s ++ t) x ≡ (has s x || has t x)
 has_append [] t x = refl
-has_append (d ∷ s) t x = ap (λ (b : Bool). same d x || b) (has_append s t x) ∙ or_assoc (same d x) (has s x) (has t x)
-
-or_false : (p : Bool) → (p || false) ≡ p
-or_false true = refl
-or_false false = refl
+has_append (d ∷ s) t x = ap (λ (b : Bool). same d x || b) (has_append s t x) ∙ sym (or_assoc (same d x) (has s x) (has t x))
 
 module _ (s : Edges) (j : ℕ) (l : j < length s) where
   front_more : (x : Edge) → has (take (j + 1) s) x ≡ (has (take j s) x || same (get_or s j no_edge) x)
   front_more x =
       ap (λ (t : Edges). has t x) (take_more s j no_edge l) ∙ has_append (take j s) (get_or s j no_edge ∷ []) x
-      ∙ ap (λ (b : Bool). has (take j s) x || b) (or_false (same (get_or s j no_edge) x))
+      ∙ ap (λ (b : Bool). has (take j s) x || b) (or-false (same (get_or s j no_edge) x))
 
 stands_in : (s : Edges) (j : ℕ) → j < length s → has s (get_or s j no_edge) ≡ true
 stands_in [] j l = absurd (omega arith)
@@ -77,11 +70,23 @@ behind_front (d ∷ s) (suc j) up l =
     let m : j < length s = omega arith in
     rw (before_differs d (get_or s j no_edge) (asc_first d s (get_or s j no_edge) up (stands_in s j m))) (behind_front s j (asc_tail d s up) m)
 
+-- an addition that concerns no vault
+pub announces_to_nobody : {R : Type 0} (a : Addition) (s : Edges) (h : Held R) → ((k : ℕ) → has_vault a.concerned k ≡ false) → Announced a s h h
+announces_to_nobody a s h n = record {
+  edges = refl;
+  told = λ k y. by y k (is_told h.ledger k y) (has s y) (rises a y) (n k);
+  sites = altered_alike (λ k z. z) _ h.sites h.sites (λ k z. ap (λ (b : Bool). sent_all (map Add (cond b (filter (λ x. rises a x && not (is_told h.ledger k x)) s) [])) z) (sym (n k))) (not_altered h.sites);
+  rest = record { rule = refl; declared = refl; keeping = refl };
+}
+  where
+    by : (y : Edge) (k : ℕ) (o m r : Bool) → has_vault a.concerned k ≡ false → o ≡ (o || (m && (r && has_vault a.concerned k)))
+    by y k o m r q = grind arith
+
 module _ {R : Type 0} (a : Addition) (h x : Held R) where
   pub announces_nothing : Announced a [] h h
   announces_nothing = record {
     edges = refl;
-    told = λ k y. sym (or_false (is_told h.ledger k y));
+    told = λ k y. sym (or-false (is_told h.ledger k y));
     sites = altered_alike (λ k z. z) _ h.sites h.sites (λ k z. by (has_vault a.concerned k) z) (not_altered h.sites);
     rest = record { rule = refl; declared = refl; keeping = refl };
   }
@@ -152,7 +157,7 @@ module _ {R : Type 0} (a : Addition) (h x : Held R) where
       new_before k =
           so_far.told k (get_or s j no_edge)
           ∙ ap (λ (b : Bool). is_told h.ledger k (get_or s j no_edge) || (b && (rises a (get_or s j no_edge) && has_vault a.concerned k))) (behind_front s j up l)
-          ∙ or_false _
+          ∙ or-false _
 
       news_here : (k : ℕ) → has_vault newly k ≡ (rises a (get_or s j no_edge) && (has_vault a.concerned k && not (is_told h.ledger k (get_or s j no_edge))))
       news_here k = news k ∙ rw (new_before k, rise) refl
@@ -187,9 +192,27 @@ module _ {R : Type 0} (a : Addition) (h x : Held R) where
           by y false true true true true r i = refl
           by y false true false true true r i = refl
           by y false false c true true r i = refl
-          by y false true c false true r i = or_false c
+          by y false true c false true r i = or-false c
           by y false true c false false r i = refl
           by y false false c false u r i = refl
+
+-- edges that do not rise are passed by, d of them from place j on
+module _ {R : Type 0} (a : Addition) (s : Edges) (h x : Held R) where
+  pub announces_past : (j d : ℕ) → j + d ≤ length s → ((i : ℕ) → j ≤ i → i < j + d → rises a (get_or s i no_edge) ≡ false) → Announced a (take j s) h x → Announced a (take (j + d) s) h x
+  announces_past j zero l q so_far = let e : j ≡ j + 0 = omega arith in subst (λ (i : ℕ). Announced a (take i s) h x) e so_far
+  announces_past j (suc d) l q so_far =
+      let m : j + d < length s = omega arith in
+      let n : j ≤ j + d = omega arith in
+      let o : j + d < j + suc d = omega arith in
+      let e : j + d + 1 ≡ j + suc d = omega arith in
+      subst (λ (i : ℕ). Announced a (take i s) h x) e
+      (announces_not a h x s (j + d) m (announces_past j d (omega arith) (λ i k r. q i k (omega arith)) so_far) (q (j + d) n o))
+
+  -- up to place k
+  pub announces_upto : (j k : ℕ) → j ≤ k → k ≤ length s → ((i : ℕ) → j ≤ i → i < k → rises a (get_or s i no_edge) ≡ false) → Announced a (take j s) h x → Announced a (take k s) h x
+  announces_upto j k l m q so_far =
+      let e : j + (k - j) ≡ k = omega arith in
+      subst (λ (i : ℕ). Announced a (take i s) h x) e (announces_past j (k - j) (omega arith) (λ i n o. q i n (omega arith)) so_far)
 
 -- One turn of the loop: the edge is read off a list that is the policy of the moment
 module _ {R : Type 0} (a : Addition) (s : Edges) (j : ℕ) (l : j < length s) (up : Ascending s) (h x z : Held R) (so_far : Announced a (take j s) h x)

@@ -26,7 +26,8 @@ use Rattle.books.specs.Additions.{rises, due_of, due_number}
 use Rattle.centre.specs.Holding.{Held, vault_by}
 use Rattle.centre.specs.Room.{About}
 use Rattle.centre.specs.Sendings.{batch_of}
-use Rattle.centre.proofs.Told.{filter_same, filter_insert, untold, told_has, told_ascending}
+use Rattle.books.proofs.Counts.{filter_agrees}
+use Rattle.centre.proofs.Told.{filter_insert, untold, told_has, told_ascending}
 
 -- nothing goes from a privilege to a user or a role
 no_way_up : (D : List Change) (s : Edges) → Sound D s → (x y : ℕ) → 128 ≤ x → Subject y → reaches s x y ≡ false
@@ -66,7 +67,7 @@ module _ {R : Type 0} (h : Held R) (e : Edge) (a : Addition) (about : About h e 
   due_batch k x =
       ap (λ (b : Bool). cond b (filter (is_due h.ledger.edges e (vault_by h.ledger h.keeping k x)) (insert e h.ledger.edges)) []) (sym (about.concerned k))
       ∙ ap (λ (s : Edges). cond (has_vault a.concerned k) s [])
-      (filter_same (is_due h.ledger.edges e (vault_by h.ledger h.keeping k x)) (λ y. rises a y && not (is_told h.ledger k y)) (insert e h.ledger.edges) test)
+      (filter_agrees (is_due h.ledger.edges e (vault_by h.ledger h.keeping k x)) (λ y. rises a y && not (is_told h.ledger k y)) (insert e h.ledger.edges) test)
     where
       flip : (p q : Bool) → (not p && q) ≡ (q && not p)
       flip true true = refl
@@ -98,7 +99,7 @@ pub batch_entered : (a : Addition) (l m : Ledger) (s : Edges) → m.edges ≡ s 
 batch_entered a l m s q told k =
     ap (λ (t : Edges). batch_of a m t k) q
     ∙ ap (λ (t : Edges). cond (has_vault a.concerned k) t [])
-    (filter_same (λ y. rises a y && not (is_told m k y)) (λ y. rises a y && not (is_told l k y)) s (λ y i. rw (told k y) refl))
+    (filter_agrees (λ y. rises a y && not (is_told m k y)) (λ y. rises a y && not (is_told l k y)) s (λ y i. rw (told k y) refl))
 
 -- What vault k is told of then
 

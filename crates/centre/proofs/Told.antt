@@ -1,28 +1,17 @@
 -- What the vaults are told of by a ledger, as sets: members alone tell.
-use Rattle.std.proofs.Common.{Decides, ◌≡◌, ℕ, suc, Bool, true, false, cond, ◌||◌, ◌⊎◌, List, [], ◌∷◌, length, filter, inl, inr, sym, refl, ap, ◌∙◌}
-use Rattle.std.proofs.lemmas.Bool.{false≢true, cases_Bool, and_right, or_left, or_right}
+use Rattle.std.proofs.Common.{Decides, ◌≡◌, ℕ, suc, Bool, true, false, cond, ◌||◌, ◌⊎◌, [], ◌∷◌, length, filter, inl, inr, sym, refl, ap, ◌∙◌}
+use Rattle.std.proofs.lemmas.Bool.{false≢true, cases_Bool}
 use Rattle.terms.specs.declared.edges.Edge.{Edge}
 use Rattle.terms.specs.Graph.{same, before}
 use Rattle.model.specs.EdgeSets.{Edges, Ascending, has, insert, ◌∈◌, ◌∉◌}
-use Rattle.model.proofs.Order.{same_refl}
-use Rattle.model.proofs.BitRows.{bit_none}
 use Rattle.meaning.proofs.Deciding.{kept_has, kept_ascending}
 use Rattle.books.specs.declared.vault_set.VaultSet.{VaultSet}
-use Rattle.books.specs.VaultSets.{nobody, has_vault}
-use Rattle.books.specs.Ledgers.{Ledger, beside, is_told, told_of}
+use Rattle.books.specs.VaultSets.{has_vault}
+use Rattle.books.specs.Ledgers.{Ledger, is_told, told_of}
+use Rattle.books.proofs.VaultBits.{has_nobody}
+use Rattle.books.proofs.Besides.{beside_absent}
 
 -- Filters
-
-pub filter_same : (p q : Edge → Bool) (s : Edges) → ((x : Edge) → x ∈ s → p x ≡ q x) → filter p s ≡ filter q s
-filter_same p q [] h = refl
-filter_same p q (d ∷ s) h = by (p d) (q d) (h d (or_left (same d d) (has s d) (same_refl d))) (filter_same p q s (λ x k. h x (or_right (same d x) (has s x) k)))
-  where
-    by : (a b : Bool) → a ≡ b → filter p s ≡ filter q s → cond a (d ∷ filter p s) (filter p s) ≡ cond b (d ∷ filter q s) (filter q s)
-    by a b e f = rw (e, f) refl
-
-pub filter_none : (p : Edge → Bool) (s : Edges) → ((x : Edge) → p x ≡ false) → filter p s ≡ []
-filter_none p [] h = refl
-filter_none p (d ∷ s) h = rw (h d) (filter_none p s h)
 
 -- an edge that a set lacks, and that passes, makes one more
 pub filter_insert : (p : Edge → Bool) (e : Edge) (s : Edges) → e ∉ s → p e ≡ true → length (filter p (insert e s)) ≡ suc (length (filter p s))
@@ -41,21 +30,9 @@ filter_insert p e (d ∷ s) a y = by (λ q. filter_insert p e s (lacks q) y) (sa
 
 -- Who is told of what
 
-nobody_has : (k : ℕ) → has_vault nobody k ≡ false
-nobody_has k = and_right _ _ (bit_none k)
-
-beside_absent : (s : Edges) (ms : List VaultSet) (x : Edge) → x ∉ s → beside s ms x ≡ nobody
-beside_absent [] ms x h = refl
-beside_absent (d ∷ s) [] x h = refl
-beside_absent (d ∷ s) (m ∷ ms) x h = by (beside_absent s ms x) (same d x) refl
-  where
-    by : (x ∉ s → beside s ms x ≡ nobody) → (b : Bool) → same d x ≡ b → cond b m (beside s ms x) ≡ nobody
-    by ih true q = absurd (false≢true (sym h ∙ or_left (same d x) (has s x) q))
-    by ih false q = ih (sym (ap (λ (b : Bool). b || has s x) q) ∙ h)
-
 -- nobody is told of an edge that the policy lacks
 pub untold : (l : Ledger) (k : ℕ) (x : Edge) → x ∉ l.edges → is_told l k x ≡ false
-untold l k x h = ap (λ (m : VaultSet). has_vault m k) (beside_absent l.edges l.told x h) ∙ nobody_has k
+untold l k x h = ap (λ (m : VaultSet). has_vault m k) (beside_absent l.edges l.told x h) ∙ has_nobody k
 
 pub told_has : (l : Ledger) (k : ℕ) (x : Edge) → has (told_of l k) x ≡ is_told l k x
 told_has l k x = by (is_told l k x) refl (has (told_of l k) x) refl

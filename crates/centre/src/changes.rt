@@ -13,6 +13,7 @@ ghost use Rattle.centre.specs.Sayings.{Changed};
 
 use crate::office::Office;
 use books::addition::Addition;
+use books::vault_set::VaultSet;
 use faults::centre::{CentreFault, VaultPlace};
 use graph::graph::Graph;
 use precedence::precedence::Precedence;
@@ -87,10 +88,15 @@ impl<B: Bank, R: Precedence> Office<B, R> {
     }
 
     // Sends each edge that rises to the vaults concerned that are not told of it, in order.
+    #[tactic(auto, using(crate::proofs::Announcing::announces_to_nobody))]
     fn announce(&mut self, addition: &Addition)
         ensures { Announced addition.now (held self.old).ledger.edges (held self.old) (held self.new) }
     {
-        for place in 0..self.policy.edges().len() {
+        if addition.concerned == VaultSet::none() {
+            return;
+        }
+        let (start, end) = self.policy.rising(addition);
+        for place in start..end {
             let edge = self.policy.edges()[place];
             if !addition.rises(edge) {
                 continue;

@@ -1,12 +1,13 @@
 ghost use Rattle.std.specs.Prelude.{◌≡◌, ◌++◌, ◌∷◌, [], List, Ok, Err, map, All, IfOk, IfErr};
 ghost use Rattle.calls.specs.declared.call.CallRecord.{CallRecord as Record};
 ghost use Rattle.meaning.specs.Installation as rules;
+ghost use Rattle.meaning.specs.Installation.{service};
 ghost use Rattle.meaning.specs.Outcomes.{Performs};
 ghost use Rattle.meaning.specs.Runs.{recorded, Run};
 ghost use Rattle.centre.specs.Sayings.{said};
 ghost use Rattle.centre.specs.declared.installation.Installation.TheVariants as at_stage;
 ghost use Rattle.centre.specs.Installed.{state, rule_of, Gives};
-ghost use Rattle.centre.specs.Promises.{Kept, OwnAnswer, RunFrom};
+ghost use Rattle.centre.specs.Promises.{Kept, Does, OwnAnswer, RunFrom};
 
 use crate::begin::{NotBegun, begin};
 use crate::installation::Installation;
@@ -80,29 +81,25 @@ impl<B: Bank, R: Precedence> Seating<B, R> {
 }
 
 impl<B: Bank, R: Precedence> Service<B, R> {
-    // A call in service.
+    // A call to an installation in service, which stays with its holder; 20 to one that belongs to an earlier
+    // stage.
+    pub fn hear(&mut self, call: Call) -> Result<u16, CentreFault>
+        ensures { Does R.over service self.old call result self.new }
+    {
+        match call {
+            Call::Command { user, change } => zero(self.command(user, change)),
+            Call::Apply { vault } => zero(self.apply(vault)),
+            Call::Deliver { vault } => zero(self.deliver(vault)),
+            _ => self.refuse(call),
+        }
+    }
+
     fn give(self, call: Call) -> (Installation<B, R>, Result<u16, CentreFault>)
         ensures { Gives R.over (at_stage.Service self) call result.1 result.0 }
     {
         let mut service = self;
-        match call {
-            Call::Command { user, change } => {
-                let answer = service.command(user, change);
-                (Installation::Service(service), zero(answer))
-            }
-            Call::Apply { vault } => {
-                let answer = service.apply(vault);
-                (Installation::Service(service), zero(answer))
-            }
-            Call::Deliver { vault } => {
-                let answer = service.deliver(vault);
-                (Installation::Service(service), zero(answer))
-            }
-            _ => {
-                let answer = service.refuse(call);
-                (Installation::Service(service), answer)
-            }
-        }
+        let answer = service.hear(call);
+        (Installation::Service(service), answer)
     }
 }
 

@@ -1,5 +1,5 @@
 -- The calls of a line, one after another.
-use Rattle.std.proofs.Common.{◌≡◌, Bool, false, cond, ◌++◌, List, [], ◌∷◌, ℕ, Ok, Err, Result, refl, sym, ap, ◌∙◌, subst}
+use Rattle.std.proofs.Common.{◌≡◌, Bool, true, false, cond, ◌++◌, List, [], ◌∷◌, ℕ, Ok, Err, Result, refl, sym, ap, ◌∙◌, subst}
 use Rattle.calls.specs.declared.call.Call.{Call}
 use Rattle.calls.specs.declared.call.Call.TheVariants.{Declare, Keep, EndNaming, Seat, Open, Command, Apply, Deliver}
 use Rattle.calls.specs.declared.call.CallRecord.{CallRecord}
@@ -19,6 +19,7 @@ use Rattle.centre.specs.Offices.{held}
 use Rattle.text.specs.Forms.{form_of, Refused, Said}
 use Rattle.centre.specs.Holding.{Held, installation}
 use Rattle.centre.specs.Installed.{state, rule_of, held_at, Gives}
+use Rattle.centre.specs.Promises.{Does}
 use Rattle.centre.proofs.Runs.{run_more, performs_by}
 use Rattle.scripts.specs.Answering.{line_answer, is_past_naming, ended, given, RunBy, Answered, unread, carried}
 
@@ -73,14 +74,24 @@ module _ {B R : Type 0} (over : R → Rule) where
   same_declared (Seating s) = refl
   same_declared (Service s) = refl
 
-  declared_by : (at : Installation B R) (o : Office B R) → held o ≡ held_at at → (D : List Change) → D ≡ o.names → D ≡ (state at).declared
+  pub declared_by : (at : Installation B R) (o : Office B R) → held o ≡ held_at at → (D : List Change) → D ≡ o.names → D ≡ (state at).declared
   declared_by at o h D d = d ∙ ap (λ (x : Held R). x.declared) h ∙ same_declared at
 
-  module _ (at : Installation B R) (o : Office B R) (h : held o ≡ held_at at) (D : List Change) (d : D ≡ o.names) (line : List ℕ) where
+  -- a line is read against what is declared
+  module _ (at : Installation B R) (D : List Change) (d : D ≡ (state at).declared) (line : List ℕ) where
     pub is_unread : (f : TextFault) → Refused D (form_of line) line f → Answered over at line (Err (Text f)) at
-    is_unread f r = unread (subst (λ (E : List Change). Refused E (form_of line) line f) (declared_by at o h D d) r)
+    is_unread f r = unread (subst (λ (E : List Change). Refused E (form_of line) line f) d r)
 
     pub is_carried : (c : Call) (a : Answer) (next : Installation B R) → Said D (form_of line) line c → RunBy over at (given (state at).stage c a) next
         → (b : Result (Unit {0}) ScriptFault) → b ≡ line_answer a → Answered over at line b next
     is_carried c a next s r b e = subst (λ (b : Result (Unit {0}) ScriptFault). Answered over at line b next) (sym e)
-        (carried a (subst (λ (E : List Change). Said E (form_of line) line c) (declared_by at o h D d) s) r)
+        (carried a (subst (λ (E : List Change). Said E (form_of line) line c) d s) r)
+
+-- in service every call is alone
+pub in_service : {B R : Type 0} (over : R → Rule) (h x : Held R) (c : Call) (a : Answer) → Does over service h c a x
+    → RunBy {B = B} over (Service h) (given service c a) (Service x)
+in_service {B} over h x c a d = by (is_past_naming c)
+  where
+    by : (b : Bool) → RunBy {B = B} over (Service h) (cond b (recorded c a ∷ []) (recorded c a ∷ [])) (Service x)
+    by true = record { run = calls d.performs ends; rule = d.rule }
+    by false = record { run = calls d.performs ends; rule = d.rule }

@@ -14,6 +14,8 @@ use Rattle.meaning.specs.Outcomes.{Answer}
 use Rattle.meaning.specs.Runs.{recorded, Run}
 use Rattle.text.specs.Forms.{form_of, Refused, Said}
 use Rattle.centre.specs.declared.installation.Installation.{Installation}
+use Rattle.centre.specs.declared.installation.Installation.TheVariants.{Service}
+use Rattle.centre.specs.Holding.{Held}
 use Rattle.centre.specs.Installed.{state, rule_of}
 
 -- an answer without its number
@@ -72,3 +74,7 @@ module _ {B R : Type 0} (over : R → Rule) (at : Installation B R) where
     unread : {f : TextFault} → Refused (state at).declared (form_of line) line f → Answered line (Err (Text f)) at
     carried : {c : Call} (a : Answer) {next : Installation B R} → Said (state at).declared (form_of line) line c → Carried c a next
         → Answered line (line_answer a) next
+
+-- The same of an installation in service, which is in service afterwards, whatever its bank.
+abbrev pub Heard : {R : Type 0} → (R → Rule) → Held R → List ℕ → Result (Unit {0}) ScriptFault → Held R → Type 0
+Heard over h line a x = Answered {B = Unit {0}} over (Service h) line a (Service x)

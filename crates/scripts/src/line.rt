@@ -2,11 +2,12 @@ ghost use Rattle.std.specs.Prelude.{◌≡◌, ℕ, List, Ok, take};
 ghost use Rattle.calls.specs.declared.call.Call.TheVariants.{EndNaming};
 ghost use Rattle.centre.specs.Installed.{state, rule_of, Gives};
 ghost use Rattle.centre.specs.Promises.{Kept};
-ghost use Rattle.scripts.specs.Answering.{line_answer, Passed, Carried, Answered};
+ghost use Rattle.scripts.specs.Answering.{line_answer, Passed, Carried, Answered, Heard};
 
 use calls::call::Call;
 use centre::installation::Installation;
 use centre::running::give;
+use centre::service::Service;
 use faults::centre::CentreFault;
 use faults::script::ScriptFault;
 use precedence::precedence::Precedence;
@@ -64,5 +65,19 @@ pub fn answer_line<B: Bank, R: Precedence>(
             at.laws();
             (at, Err(ScriptFault::Text(fault)))
         }
+    }
+}
+
+// Answers one line of a script to an installation in service, which stays with its holder.
+pub fn hear_line<B: Bank, R: Precedence>(
+    service: &mut Service<B, R>,
+    line: &[u8],
+) -> Result<(), ScriptFault>
+    ensures heard { Heard R.over service.old line.now result service.new }
+    ensures front { (s : List ℕ) → take 129 s ≡ line.now → Heard R.over service.old s result service.new }
+{
+    match read_call(service.office().declared(), line) {
+        Ok(call) => without_number(service.hear(call)),
+        Err(fault) => Err(ScriptFault::Text(fault)),
     }
 }

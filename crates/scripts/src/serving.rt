@@ -1,10 +1,17 @@
 use crate::front::Front;
-use crate::line::answer_line;
+use crate::line::{answer_line, hear_line};
 use crate::shown::Shown;
 use centre::installation::Installation;
+use faults::script::ScriptFault;
 use precedence::precedence::Precedence;
 use std::io::{self, Read, Write};
 use vaults::bank::Bank;
+
+// Prints the answer to a line.
+fn print<W: Write>(answer: Result<(), ScriptFault>, out: &mut W) -> io::Result<()> {
+    let shown = Shown(answer);
+    writeln!(out, "{shown}")
+}
 
 // Answers one line, and prints the answer.
 fn answer<B: Bank + Drop, R: Precedence + Drop, W: Write>(
@@ -13,13 +20,13 @@ fn answer<B: Bank + Drop, R: Precedence + Drop, W: Write>(
     out: &mut W,
 ) -> io::Result<Installation<B, R>> {
     let (next, answer) = answer_line(at, line);
-    let shown = Shown(answer);
-    writeln!(out, "{shown}")?;
+    print(answer, out)?;
     Ok(next)
 }
 
 // Answers every line of a script. The last one may lack its end, if it is not empty. Of each line only the
-// front is kept, so a script may be of any length.
+// front is kept, so a script may be of any length. An installation in service is lent to the lines, as moving
+// it from line to line costs a tenth of the time.
 pub fn serve<B: Bank + Drop, R: Precedence + Drop, I: Read, W: Write>(
     at: Installation<B, R>,
     input: &mut I,
@@ -35,7 +42,11 @@ pub fn serve<B: Bank + Drop, R: Precedence + Drop, I: Read, W: Write>(
         }
         for byte in block.get(..count).unwrap_or_default() {
             if *byte == b'\n' {
-                at = answer(at, line.text(), out)?;
+                if let Installation::Service(service) = &mut at {
+                    print(hear_line(service, line.text()), out)?;
+                } else {
+                    at = answer(at, line.text(), out)?;
+                }
                 line.clear();
             } else {
                 line.push(*byte);

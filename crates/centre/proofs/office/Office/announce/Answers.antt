@@ -1,8 +1,28 @@
-use Rattle.std.proofs.Common.{◌≡◌, ◌<◌, length, sym, refl, ap, ◌∙◌, arith}
+use Rattle.std.proofs.Common.{◌≡◌, ◌<◌, ◌≤◌, length, inl, inr, sym, refl, ap, ◌∙◌, arith}
 use Rattle.books.specs.Books.{policy_edges}
 use Rattle.centre.specs.Offices.{held}
-use Rattle.centre.proofs.Announcing.{turn_passes, turn_sends}
+use Rattle.centre.proofs.Announcing.{announces_nothing, announces_upto, announces_all, turn_passes, turn_sends}
 use Rattle.centre.proofs.office.Office.announce.Goals as goal
+
+pub loop-place-init : goal.loop-place-init
+loop-place-init g c =
+    let s = policy_edges c.args.self.now.policy in
+    let rising = c.rising-start in
+    let within : rising.result.0 ≤ length s = omega (arith, rising.ensures.order, rising.ensures.within) in (
+      announces_upto c.args.addition.now s (held c.args.self.now) (held c.args.self.now) 0 rising.result.0 (omega arith) within
+          (λ i n o. rising.ensures.outside i (omega (arith, within)) (inl o)) (announces_nothing c.args.addition.now (held c.args.self.now) (held c.args.self.now)),
+      rising.ensures.within,
+    )
+
+pub returns : goal.returns
+returns g c =
+    let s = policy_edges c.args.self.now.policy in
+    let rising = c.rising-start in
+    let over : rising.result.1 ≤ c.loop-place.place = omega (arith, c.loop-place-test.false) in
+    let within : c.loop-place.place ≤ length s = omega (arith, rising.ensures.order, rising.ensures.within, c.loop-place.auto.place-end) in
+    announces_all c.args.addition.now s (length s) (held c.args.self.now) (held c.loop-place.self) refl
+    (announces_upto c.args.addition.now s (held c.args.self.now) (held c.loop-place.self) c.loop-place.place (length s) within (omega arith)
+    (λ i n o. rising.ensures.outside i o (inr (omega (arith, over)))) c.loop-place.invariant.0)
 
 pub loop-place-preserved-then-not-rises : goal.loop-place-preserved-then-not-rises
 loop-place-preserved-then-not-rises g c =
