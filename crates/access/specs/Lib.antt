@@ -1,1 +1,3 @@
-pub mod Judgement
+pub mod Questions
+pub mod Faults
+pub mod Texts

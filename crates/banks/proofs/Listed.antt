@@ -2,7 +2,7 @@
 use Rattle.std.proofs.Common.{◌≡◌, ℕ, zero, suc, ◌<◌, true, List, [], ◌∷◌, length, map, get_or, set, Result, nat_lt, sym, ap, ◌∙◌, arith}
 use Rattle.std.proofs.lemmas.List.{length-map, map-set}
 use Rattle.std.proofs.lemmas.Bool.Decides.{nat_tests}
-use Rattle.faults.specs.declared.bank.BankFault.{BankFault}
+use Rattle.refusals.specs.declared.bank.BankFault.{BankFault}
 use Rattle.vaults.specs.Sites.{Site, site_at, alter, asked}
 
 site_of : {V : Type 0} (site : V → Site) (vs : List V) (i : ℕ) (v : V) → i < length vs → v ≡ get_or vs i v → site_at (map site vs) i ≡ site v

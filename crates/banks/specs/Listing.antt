@@ -1,6 +1,6 @@
 -- What the vaults of a list keep, they keep each by itself.
 use Rattle.std.specs.Prelude.{◌≤◌, List, [], ◌∷◌, length, map}
-use Rattle.model.specs.EdgeSets.{Table}
+use Rattle.edge_sets.specs.EdgeSets.{Table}
 use Rattle.vaults.specs.Sites.{Site, AllTables, AllBounded}
 
 module _ {V : Type 0} (site : V → Site) where

@@ -2,15 +2,14 @@ ghost use Rattle.std.specs.Prelude.{map};
 ghost use Rattle.banks.specs.Listing.{all_tables, all_bounded};
 ghost use Rattle.vaults.specs.Sites.{Site};
 
-use faults::bank::BankFault;
-use links::link::Link;
-use stores::store::Store;
-use terms::edges::{Change, Edge};
-use vaults::bank::{Bank, Load};
-use vaults::vault::Vault;
+use edges::{Change, Edge};
+use links::Link;
+use refusals::BankFault;
+use stores::Store;
+use vaults::{Bank, Load, Vault};
 
-// A bank whose vaults stand in a list, each as the bank of one vault. They are of one type, in which
-// `Either` lets their makes differ; how many they are is known when the list is made, and not from its type.
+/// A bank whose vaults stand in a list, each as the bank of one vault. They are of one type, in which
+/// `Either` lets their makes differ; how many they are is known when the list is made, and not from its type.
 #[derive(Drop)]
 pub struct VaultList<L, S> {
     pub vaults: Vec<(Vault<L, S>, ())>,

@@ -1,86 +1,92 @@
-ghost use Rattle.std.specs.Prelude.{◌≡◌, [], ◌∷◌, IfOk, replicate};
-ghost use Rattle.links.specs.Waiting.{link_limit};
-ghost use Rattle.stores.specs.Putting.{store_limit};
+ghost use Rattle.std.specs.Prelude.{◌≡◌, ◌/◌, ◌%◌, [], ◌∷◌, map, IfOk};
+ghost use Rattle.links.specs.Links.{link_limit};
+ghost use Rattle.stores.specs.Stores.{store_limit};
 ghost use Rattle.banks.specs.Making.{empty_site};
+ghost use Rattle.banks.specs.Makes.{make_number, vault_make};
 
+use crate::either::Either;
 use crate::growing::GrowingBank;
 use crate::list::VaultList;
-use choices::either::Either;
-use links::link::Link;
-use links::memory::Blank;
-use links::queue::Queue;
+use links::{Link, NewLink};
 use std::alloc::{AllocError, Global};
-use stores::store::{Made, Reader, Store};
-use vaults::bank::Bank;
-use vaults::vault::Vault;
+use stores::{NewStore, Reader, Store};
+use vaults::{Bank, Vault};
 
-// A vault whose link and whose store are each of one of two makes.
-pub type MixedVault<M, N, S, T> = Vault<Either<Queue<M>, Queue<N>>, Either<S, T>>;
+/// A vault whose link and whose store are each of one of two makes.
+pub type MixedVault<L, M, S, T> = Vault<Either<L, M>, Either<S, T>>;
 
-// A bank of such vaults.
-pub type MixedList<M, N, S, T> = VaultList<Either<Queue<M>, Queue<N>>, Either<S, T>>;
+/// A bank of such vaults.
+pub type MixedList<L, M, S, T> = VaultList<Either<L, M>, Either<S, T>>;
 
-// An empty link of the first make or of the second.
-fn link_of<M: Blank + Drop, N: Blank + Drop>(
-    heap: Global,
-    first: bool,
+// An empty link, of the first make where the turn is even.
+fn link_of<L: NewLink + Drop, M: NewLink + Drop>(
+    alloc: Global,
+    turn: usize,
     limit: usize,
-) -> Result<Either<Queue<M>, Queue<N>>, AllocError>
-    ensures { IfOk result (λ l. (⟦<Either<Queue<M>, Queue<N>> as Link>⟧.waiting l ≡ []) × (⟦<Either<Queue<M>, Queue<N>> as Link>⟧.limit l ≡ link_limit limit)) }
+) -> Result<Either<L, M>, AllocError>
+    ensures waiting { IfOk result (λ l. ⟦<Either<L, M> as Link>⟧.waiting l ≡ []) }
+    ensures limit { IfOk result (λ l. ⟦<Either<L, M> as Link>⟧.limit l ≡ link_limit limit) }
+    ensures make { IfOk result (λ l. make_number l ≡ turn % 2) }
 {
-    Ok(if first {
-        Either::First(Queue::made(heap, limit)?)
-    } else {
-        Either::Second(Queue::made(heap, limit)?)
+    Ok(match turn % 2 {
+        0 => Either::First(L::new(alloc, limit)?),
+        _ => Either::Second(M::new(alloc, limit)?),
     })
 }
 
-// An empty store of the first make or of the second.
-fn store_of<S: Made + Drop, T: Made + Drop>(
-    heap: Global,
-    first: bool,
+// An empty store, of the first make where the turn is even.
+fn store_of<S: NewStore + Drop, T: NewStore + Drop>(
+    alloc: Global,
+    turn: usize,
     limit: usize,
 ) -> Result<Either<S, T>, AllocError>
-    ensures { IfOk result (λ s. (⟦<Either<S, T> as Reader>⟧.edges s ≡ []) × (⟦<Either<S, T> as Store>⟧.limit s ≡ store_limit limit)) }
+    ensures edges { IfOk result (λ s. ⟦<Either<S, T> as Reader>⟧.edges s ≡ []) }
+    ensures limit { IfOk result (λ s. ⟦<Either<S, T> as Store>⟧.limit s ≡ store_limit limit) }
+    ensures make { IfOk result (λ s. make_number s ≡ turn % 2) }
 {
-    Ok(if first {
-        Either::First(S::new(heap, limit)?)
-    } else {
-        Either::Second(T::new(heap, limit)?)
+    Ok(match turn % 2 {
+        0 => Either::First(S::new(alloc, limit)?),
+        _ => Either::Second(T::new(alloc, limit)?),
     })
 }
 
 // An empty vault of one of the four pairs of makes, which take turns.
-fn vault_of<M: Blank + Drop, N: Blank + Drop, S: Made + Drop, T: Made + Drop>(
-    heap: Global,
+fn vault_of<L: NewLink + Drop, M: NewLink + Drop, S: NewStore + Drop, T: NewStore + Drop>(
+    alloc: Global,
     turn: usize,
     link: usize,
     store: usize,
-) -> Result<MixedVault<M, N, S, T>, AllocError>
-    ensures { IfOk result (λ v. ⟦<(Vault<Either<Queue<M>, Queue<N>>, Either<S, T>>, ()) as Bank>⟧.sites (v, tt) ≡ empty_site link store ∷ []) }
+) -> Result<MixedVault<L, M, S, T>, AllocError>
+    ensures site { IfOk result (λ v.
+        ⟦<(Vault<Either<L, M>, Either<S, T>>, ()) as Bank>⟧.sites (v, tt) ≡ empty_site link store ∷ []) }
+    ensures make { IfOk result (λ v. vault_make v ≡ turn % 4) }
 {
     Ok(Vault {
-        link: link_of(heap, turn % 2 == 0, link)?,
-        store: store_of(heap, turn / 2 % 2 == 0, store)?,
+        link: link_of(alloc, turn, link)?,
+        store: store_of(alloc, turn / 2, store)?,
     })
 }
 
-impl<M: Blank + Drop, N: Blank + Drop, S: Made + Drop, T: Made + Drop> GrowingBank
-    for MixedList<M, N, S, T> {
-    fn none(heap: Global) -> MixedList<M, N, S, T> {
+impl<L: NewLink + Drop, M: NewLink + Drop, S: NewStore + Drop, T: NewStore + Drop> GrowingBank
+    for MixedList<L, M, S, T> {
+    ghost count = { 4 };
+
+    ghost makes = { λ b. map (λ v. vault_make v.0) b.vaults.items };
+
+    fn empty(alloc: Global) -> MixedList<L, M, S, T> {
         VaultList {
-            vaults: Vec::new(heap),
+            vaults: Vec::new(alloc),
         }
     }
 
     fn grow(
         &mut self,
-        heap: Global,
+        alloc: Global,
         turn: usize,
         link: usize,
         store: usize,
     ) -> Result<(), AllocError> {
-        self.vaults.push((vault_of(heap, turn, link, store)?, ()))?;
+        self.vaults.push((vault_of(alloc, turn, link, store)?, ()))?;
         Ok(())
     }
 }

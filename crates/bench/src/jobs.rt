@@ -1,11 +1,11 @@
-use faults::session::SessionFault;
-use graph::graph::Paths;
-use links::link::Link;
-use sessions::session::{Session, ask_once};
-use stores::store::{Reader, Store};
-use terms::edges::{Change, Edge};
+use edges::{Change, Edge};
+use graph::Paths;
+use links::Link;
+use sessions::session::ask_once;
+use sessions::{Session, SessionFault};
+use stores::{Reader, Store};
 
-// How many calls a job made, and what it counted.
+/// How many calls a job made, and what it counted.
 #[derive(Clone, Copy)]
 pub struct Tally {
     pub asked: usize,
@@ -22,8 +22,8 @@ impl Tally {
     }
 }
 
-// Something that makes many calls. Each turn of one that only asks begins with another user, as the
-// compiler would else do the same work once for all turns.
+/// Something that makes many calls. Each turn of one that only asks begins with another user, as the
+/// compiler would else do the same work once for all turns.
 pub trait Job {
     // What is done, and what is counted.
     const NAME: &'static str;
@@ -42,8 +42,8 @@ fn role_of(user: u16, roles: u16) -> u16 {
     64u16.saturating_add(user_of(user.saturating_mul(7), roles))
 }
 
-// For every user privilege, the question of each user in his first role. Each is asked by a session
-// of its own, as the compiler would move the search out of a loop that asks for one user again.
+/// For every user privilege, the question of each user in his first role. Each is asked by a session
+/// of its own, as the compiler would move the search out of a loop that asks for one user again.
 #[derive(Drop)]
 pub struct Questions<'a, R> {
     pub table: &'a R,
@@ -76,7 +76,7 @@ impl<R: Reader> Job for Questions<'_, R> {
     }
 }
 
-// The closure of every user; yes where it has role 64.
+/// The closure of every user; yes where it has role 64.
 #[derive(Drop)]
 pub struct Closures<'a, R> {
     pub table: &'a R,
@@ -101,7 +101,7 @@ impl<R: Reader> Job for Closures<'_, R> {
     }
 }
 
-// Each edge of a store is dropped and put back; counted is what the store holds in the end.
+/// Each edge of a store is dropped and put back; counted is what the store holds in the end.
 #[derive(Drop)]
 pub struct Changes<'a, S> {
     pub store: &'a mut S,
@@ -125,8 +125,8 @@ impl<S: Store> Job for Changes<'_, S> {
     }
 }
 
-// Each message is sent on an empty link, and then as many are struck; counted is how many waited, without
-// those that still wait in the end.
+/// Each message is sent on an empty link, and then as many are struck; counted is how many waited, without
+/// those that still wait in the end.
 #[derive(Drop)]
 pub struct Messages<'a, L> {
     pub link: &'a mut L,

@@ -10,16 +10,16 @@ mod tables;
 
 use crate::jobs::{Changes, Closures, Job, Messages, Questions};
 use crate::tables::{LARGE, SMALL, Size, edges_of, filled, messages};
-use images::image::Image;
+use edges::Edge;
+use images::Image;
 use images::writer::write;
-use links::link::Link;
-use memories::makes::{Packed, Ring};
-use pairs::pairs::Pairs;
-use rows::rows::Rows;
+use links::{Link, NewLink};
+use pairs::Pairs;
+use queues::{Packed, Ring};
+use rows::Rows;
 use std::time::Instant;
 use std::{env, io};
-use stores::store::{Reader, Store};
-use terms::edges::Edge;
+use stores::{Reader, Store};
 
 // What is shown of each job: what came of it, or how long each of its calls took.
 #[derive(Clone, Copy, PartialEq, Eq)]
@@ -140,17 +140,17 @@ fn image<R: Reader>(rt: &HostRuntime, how: Shown, table: &R, users: u16) -> io::
 
 // All that is done with a table of some size.
 fn sized(rt: &HostRuntime, how: Shown, size: Size) -> anyhow::Result<()> {
-    let heap = rt.alloc();
-    let mut rows = filled::<Rows>(heap, size)?;
-    let mut pairs = filled::<Pairs>(heap, size)?;
-    let edges = edges_of(heap, &rows)?;
+    let alloc = rt.alloc();
+    let mut rows = filled::<Rows>(alloc, size)?;
+    let mut pairs = filled::<Pairs>(alloc, size)?;
+    let edges = edges_of(alloc, &rows)?;
     let count = edges.len();
     println!(rt; "{count} edges")?;
     store(rt, how, "rows", &mut rows, &edges, size.roles)?;
     store(rt, how, "pairs", &mut pairs, &edges, size.roles)?;
     image(rt, how, &rows, size.roles)?;
-    link(rt, how, "ring", &mut Ring::made(heap, 1024)?, &edges)?;
-    link(rt, how, "packed", &mut Packed::made(heap, 1024)?, &edges)
+    link(rt, how, "ring", &mut Ring::new(alloc, 1024)?, &edges)?;
+    link(rt, how, "packed", &mut Packed::new(alloc, 1024)?, &edges)
 }
 
 fn all(rt: &HostRuntime, how: Shown) -> anyhow::Result<()> {

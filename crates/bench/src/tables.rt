@@ -1,10 +1,10 @@
+use edges::{Change, Edge};
 use std::alloc::{AllocError, Global};
-use stores::store::{Made, Reader, Store};
-use terms::edges::{Change, Edge};
+use stores::{NewStore, Reader, Store};
 
-// How large a table is: as many users as roles; how many roles each user is in; how many of the roles,
-// which stand in one chain, have a short cut, and over how many it goes; how many privileges each has,
-// and how many roles have one more.
+/// How large a table is: as many users as roles; how many roles each user is in; how many of the roles,
+/// which stand in one chain, have a short cut, and over how many it goes; how many privileges each has,
+/// and how many roles have one more.
 #[derive(Clone, Copy)]
 pub struct Size {
     pub roles: u16,
@@ -15,7 +15,7 @@ pub struct Size {
     more: u16,
 }
 
-// 500 edges.
+/// 500 edges.
 pub const LARGE: Size = Size {
     roles: 64,
     memberships: 4,
@@ -25,7 +25,7 @@ pub const LARGE: Size = Size {
     more: 16,
 };
 
-// 50 edges.
+/// 50 edges.
 pub const SMALL: Size = Size {
     roles: 16,
     memberships: 1,
@@ -71,16 +71,16 @@ fn fill<S: Store>(store: &mut S, size: Size) {
     }
 }
 
-// A store with a table of that size.
-pub fn filled<S: Made + Drop>(heap: Global, size: Size) -> Result<S, AllocError> {
-    let mut store = S::new(heap, 512)?;
+/// A store with a table of that size.
+pub fn filled<S: NewStore + Drop>(alloc: Global, size: Size) -> Result<S, AllocError> {
+    let mut store = S::new(alloc, 512)?;
     fill(&mut store, size);
     Ok(store)
 }
 
-// The edges of a table, ascending.
-pub fn edges_of<R: Reader>(heap: Global, table: &R) -> Result<Vec<Edge>, AllocError> {
-    let mut edges = Vec::new(heap);
+/// The edges of a table, ascending.
+pub fn edges_of<R: Reader>(alloc: Global, table: &R) -> Result<Vec<Edge>, AllocError> {
+    let mut edges = Vec::new(alloc);
     for from in 0..128u16 {
         for to in 64..256u16 {
             let edge = Edge { from, to };
@@ -92,12 +92,12 @@ pub fn edges_of<R: Reader>(heap: Global, table: &R) -> Result<Vec<Edge>, AllocEr
     Ok(edges)
 }
 
-// So many messages: the additions of some edges, over and over.
-pub fn messages(heap: Global, edges: &[Edge], count: usize) -> Result<Vec<Change>, AllocError> {
+/// So many messages: the additions of some edges, over and over.
+pub fn messages(alloc: Global, edges: &[Edge], count: usize) -> Result<Vec<Change>, AllocError> {
     edges
         .iter()
         .cycle()
         .take(count)
         .map(|edge| Change::Add(*edge))
-        .collect(heap)
+        .collect(alloc)
 }

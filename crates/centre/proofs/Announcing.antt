@@ -5,20 +5,20 @@ use Rattle.std.proofs.Math.Seq.{take-length}
 use Rattle.std.proofs.lemmas.Bool.{false≢true, or_left, or_right}
 use Rattle.std.proofs.lemmas.List.{take_more}
 use Rattle.std.proofs.lemmas.List.Elements.{filter_more}
-use Rattle.terms.specs.declared.edges.Edge.{Edge}
-use Rattle.terms.specs.declared.edges.Change.{Change}
-use Rattle.terms.specs.declared.edges.Change.TheVariants.{Add}
-use Rattle.terms.specs.Graph.{same}
-use Rattle.model.specs.EdgeSets.{Edges, Ascending, no_edge, has, ◌∉◌}
-use Rattle.model.proofs.Order.{same_refl, same_equal}
-use Rattle.model.proofs.Ascents.{asc_tail, asc_first}
-use Rattle.model.proofs.Order.{before_differs}
+use Rattle.edges.specs.declared.edges.Edge.{Edge}
+use Rattle.edges.specs.declared.edges.Change.{Change}
+use Rattle.edges.specs.declared.edges.Change.TheVariants.{Add}
+use Rattle.edges.specs.Edges.{same}
+use Rattle.edge_sets.specs.EdgeSets.{Edges, Ascending, no_edge, has, ◌∉◌}
+use Rattle.edge_sets.proofs.Order.{same_refl, same_equal}
+use Rattle.edge_sets.proofs.Ascents.{asc_tail, asc_first}
+use Rattle.edge_sets.proofs.Order.{before_differs}
 use Rattle.vaults.specs.Sites.{Site, send_to}
-use Rattle.books.specs.declared.vault_set.VaultSet.{VaultSet}
-use Rattle.books.specs.declared.addition.Addition.{Addition}
-use Rattle.books.specs.VaultSets.{has_vault}
-use Rattle.books.specs.Ledgers.{is_told}
-use Rattle.books.specs.Additions.{rises}
+use Rattle.policy.specs.declared.vault_set.VaultSet.{VaultSet}
+use Rattle.policy.specs.declared.addition.Addition.{Addition}
+use Rattle.policy.specs.VaultSets.{has_vault}
+use Rattle.policy.specs.Ledgers.{is_told}
+use Rattle.policy.specs.Additions.{rises}
 use Rattle.centre.specs.Worked.{AlteredBy, sent_all, sent_to}
 use Rattle.centre.specs.Holding.{Held}
 use Rattle.centre.specs.Sendings.{batch_of, SameRest, Announced}

@@ -1,32 +1,32 @@
 -- What an addition sends to each vault, by the ledger and by the rules.
 use Rattle.std.proofs.Common.{◌≡◌, ℕ, suc, ◌≤◌, Bool, true, false, cond, not, ◌&&◌, ◌||◌, ◌⊎◌, List, [], map, length, filter, inl, inr, sym, refl, ap, ◌∙◌, subst, arith}
 use Rattle.std.proofs.lemmas.Bool.{false≢true, and_parts, or_left, or_right}
-use Rattle.terms.specs.declared.edges.Edge.{Edge}
-use Rattle.terms.specs.declared.edges.Change.{Change}
-use Rattle.terms.specs.declared.edges.Change.TheVariants.{Add}
-use Rattle.terms.specs.Graph.{same, is_role}
-use Rattle.model.specs.EdgeSets.{Edges, Ascending, has, insert, ◌∈◌, ◌∉◌}
-use Rattle.model.specs.BitRows.{has_role}
-use Rattle.model.proofs.Order.{same_refl}
-use Rattle.model.proofs.Members.{insert_cases}
-use Rattle.model.proofs.Ascents.{ascending_unique}
+use Rattle.edges.specs.declared.edges.Edge.{Edge}
+use Rattle.edges.specs.declared.edges.Change.{Change}
+use Rattle.edges.specs.declared.edges.Change.TheVariants.{Add}
+use Rattle.edges.specs.Edges.{same, is_role}
+use Rattle.edge_sets.specs.EdgeSets.{Edges, Ascending, has, insert, ◌∈◌, ◌∉◌}
+use Rattle.edge_sets.specs.BitRows.{has_role}
+use Rattle.edge_sets.proofs.Order.{same_refl}
+use Rattle.edge_sets.proofs.Members.{insert_cases}
+use Rattle.edge_sets.proofs.Ascents.{ascending_unique}
 use Rattle.vaults.specs.Sites.{Site}
-use Rattle.meaning.specs.Paths.{Subject, reaches}
-use Rattle.meaning.specs.Privileges.{Proper, assigns, inherits, permits, administers}
-use Rattle.meaning.proofs.Privileges.{role_decides}
-use Rattle.meaning.specs.Sending.{performs, is_due, due, brought}
-use Rattle.meaning.proofs.Paths.{paths_decided}
-use Rattle.meaning.proofs.Covering.{Sound, ends, stays}
-use Rattle.meaning.proofs.Messages.{performs_ascending, adds_old, adds_new, adds_cases}
-use Rattle.meaning.proofs.Deciding.{kept_has}
-use Rattle.books.specs.declared.addition.Addition.{Addition}
-use Rattle.books.specs.VaultSets.{has_vault}
-use Rattle.books.specs.Ledgers.{Ledger, is_told, told_of}
-use Rattle.books.specs.Additions.{rises, due_of, due_number}
+use Rattle.graph.specs.Paths.{Subject, reaches}
+use Rattle.privileges.specs.Privileges.{Proper, assigns, inherits, permits, administers}
+use Rattle.graph.proofs.Vertices.{role_decides}
+use Rattle.rules.specs.Sending.{performs, is_due, due, brought}
+use Rattle.graph.proofs.Reaching.{paths_decided}
+use Rattle.precedence.proofs.Covering.{Sound, ends, stays}
+use Rattle.rules.proofs.Messages.{performs_ascending, adds_old, adds_new, adds_cases}
+use Rattle.rules.proofs.Deciding.{kept_has}
+use Rattle.policy.specs.declared.addition.Addition.{Addition}
+use Rattle.policy.specs.VaultSets.{has_vault}
+use Rattle.policy.specs.Ledgers.{Ledger, is_told, told_of}
+use Rattle.policy.specs.Additions.{rises, due_of, due_number}
 use Rattle.centre.specs.Holding.{Held, vault_by}
 use Rattle.centre.specs.Room.{About}
 use Rattle.centre.specs.Sendings.{batch_of}
-use Rattle.books.proofs.Counts.{filter_agrees}
+use Rattle.policy.proofs.Counts.{filter_agrees}
 use Rattle.centre.proofs.Told.{filter_insert, untold, told_has, told_ascending}
 
 -- nothing goes from a privilege to a user or a role

@@ -1,30 +1,32 @@
 -- An edge that comes or goes by the centre's books, and by the rules.
-use Rattle.std.proofs.Common.{◌≡◌, ℕ, suc, ◌+◌, ◌*◌, ◌<◌, Bool, true, false, cond, not, ◌&&◌, ◌||◌, List, [], ◌∷◌, ◌++◌, map, length, ltb, leb, Some, None, Ok, Err, Option, Result, sym, refl, ap, ◌∙◌, subst, arith}
+use Rattle.std.proofs.Common.{◌≡◌, ℕ, suc, ◌+◌, ◌*◌, ◌<◌, ◌≤◌, Bool, true, false, cond, not, if◌then◌else◌, ◌&&◌, ◌||◌, List, [], ◌∷◌, ◌++◌, map, length, ltb, leb, Some, None, Ok, Err, Option, Result, sym, refl, ap, ◌∙◌, subst, arith}
 use Rattle.std.proofs.lemmas.Bool.{false≢true, leb-true}
-use Rattle.terms.specs.declared.edges.Edge.{Edge}
-use Rattle.terms.specs.declared.edges.Change.{Change}
-use Rattle.terms.specs.declared.edges.Change.TheVariants.{Add, Remove}
-use Rattle.terms.specs.Graph.{same}
-use Rattle.faults.specs.declared.centre.CentreFault.{CentreFault}
-use Rattle.faults.specs.declared.centre.CentreFault.TheVariants.{PolicyFull, StoreRoom, LinkRoom}
-use Rattle.model.specs.EdgeSets.{Edges, Ascending, has, insert, delete}
-use Rattle.model.proofs.Members.{insert_old, has_delete, delete_absent}
-use Rattle.model.proofs.Ascents.{insert_ascending, delete_ascending, ascending_unique}
+use Rattle.edges.specs.declared.edges.Edge.{Edge}
+use Rattle.edges.specs.declared.edges.Change.{Change}
+use Rattle.edges.specs.declared.edges.Change.TheVariants.{Add, Remove}
+use Rattle.edges.specs.Edges.{same, is_edge}
+use Rattle.policy.specs.declared.fault.PolicyFault.{PolicyFault}
+use Rattle.policy.specs.declared.fault.PolicyFault.TheVariants.{NoEdge, Full}
+use Rattle.rules.specs.declared.fault.CentreFault.{CentreFault}
+use Rattle.rules.specs.declared.fault.CentreFault.TheVariants.{PolicyFull, StoreRoom, LinkRoom}
+use Rattle.edge_sets.specs.EdgeSets.{Edges, Ascending, has, insert, delete}
+use Rattle.edge_sets.proofs.Members.{insert_old, has_delete, delete_absent}
+use Rattle.edge_sets.proofs.Ascents.{insert_ascending, delete_ascending, ascending_unique}
 use Rattle.vaults.specs.Sites.{Site, site_at, with_waiting, send_to}
-use Rattle.meaning.specs.Privileges.{Proper, is_proper}
-use Rattle.meaning.proofs.Privileges.{proper_decides}
-use Rattle.meaning.specs.Installation.{Vault, Stage, Installation, with_policy}
-use Rattle.meaning.specs.Sending.{performs, due, brought, send, send_each}
-use Rattle.meaning.specs.Questions.{Question, asks, first_no, at_each, store_room, link_room, link_takes, HasStoreRoom, HasLinkRoom, room, for_change}
-use Rattle.meaning.specs.Outcomes.{plan}
-use Rattle.meaning.proofs.Vaults.{Good, adds_taken, withdrawal_taken}
-use Rattle.meaning.proofs.Invariant.{Fine, due_vault}
-use Rattle.meaning.proofs.Deciding.{due_lists}
-use Rattle.books.specs.declared.addition.Addition.{Addition}
-use Rattle.books.specs.declared.keeping.Keeping.{Keeping}
-use Rattle.books.specs.VaultSets.{has_vault}
-use Rattle.books.specs.Ledgers.{is_told, told_of, entry_answer, with_entry}
-use Rattle.books.specs.Additions.{rises, due_number}
+use Rattle.privileges.specs.Privileges.{Proper, is_proper}
+use Rattle.privileges.proofs.Declared.{proper_decides, edge_by_number}
+use Rattle.rules.specs.Installation.{Vault, Stage, Installation, with_policy}
+use Rattle.rules.specs.Sending.{performs, due, brought, send, send_each}
+use Rattle.rules.specs.Questions.{Question, asks, first_no, at_each, store_room, link_room, link_takes, HasStoreRoom, HasLinkRoom, room, for_change}
+use Rattle.rules.specs.Outcomes.{plan}
+use Rattle.rules.proofs.Vaults.{VaultInvariantHolds, adds_taken, withdrawal_taken}
+use Rattle.rules.proofs.Invariant.{InvariantHolds, due_vault}
+use Rattle.rules.proofs.Deciding.{due_lists}
+use Rattle.policy.specs.declared.addition.Addition.{Addition}
+use Rattle.policy.specs.declared.keeping.Keeping.{Keeping}
+use Rattle.policy.specs.VaultSets.{has_vault}
+use Rattle.policy.specs.Ledgers.{is_told, told_of, with_entry}
+use Rattle.policy.specs.Additions.{rises, due_number}
 use Rattle.centre.specs.Worked.{sent_all}
 use Rattle.centre.specs.Holding.{Held, vault_by, vaults_from, installation}
 use Rattle.centre.specs.Room.{About, store_fits, link_fits, first_short, room_by, room_answer}
@@ -87,7 +89,7 @@ module _ {R : Type 0} (t : Stage) (h : Held R) where
       pub added_full : ltb (length h.ledger.edges) 512 ≡ false → Changed W (Add e) (Err PolicyFull) W
       added_full q = record { asked = asked_for ∙ rw q refl; left = refl }
 
-      module _ (space : ltb (length h.ledger.edges) 512 ≡ true) (a : Addition) (about : About h e a) (fine : Fine W) (p : is_proper h.declared e ≡ true) where
+      module _ (space : ltb (length h.ledger.edges) 512 ≡ true) (a : Addition) (about : About h e a) (fine : InvariantHolds W) (p : is_proper h.declared e ≡ true) where
         proper : Proper h.declared e
         proper = (proper_decides h.declared e).0 p
 
@@ -109,14 +111,14 @@ module _ {R : Type 0} (t : Stage) (h : Held R) where
 
         -- a link with room takes all
         takes : ((k : ℕ) → k < length h.sites → link_fits a h k ≡ true) → EachSite (Takes h.ledger h.keeping (brought h.ledger.edges (Add e))) 0 h.sites
-        takes fits = by 0 h.sites (every_site h.ledger h.keeping (Good h.ledger.edges) 0 h.sites fine.each) (each_site (λ k x. HasLinkRoom (vault_by h.ledger h.keeping k x) (brought h.ledger.edges (Add e) (vault_by h.ledger h.keeping k x))) h.sites roomy)
+        takes fits = by 0 h.sites (every_site h.ledger h.keeping (VaultInvariantHolds h.ledger.edges) 0 h.sites fine.each) (each_site (λ k x. HasLinkRoom (vault_by h.ledger h.keeping k x) (brought h.ledger.edges (Add e) (vault_by h.ledger h.keeping k x))) h.sites roomy)
           where
             roomy : (k : ℕ) → k < length h.sites → HasLinkRoom (vault_by h.ledger h.keeping k (site_at h.sites k)) (brought h.ledger.edges (Add e) (vault_by h.ledger h.keeping k (site_at h.sites k)))
             roomy k l =
                 leb-true _ _ (ap (λ (n : ℕ). leb (length (site_at h.sites k).waiting + length (told_of h.ledger k) + 2 * n) (site_at h.sites k).link_limit) (number k (site_at h.sites k))
                 ∙ fits k l)
 
-            by : (k : ℕ) (xs : List Site) → EachSite (λ j x. Good h.ledger.edges (vault_by h.ledger h.keeping j x)) k xs
+            by : (k : ℕ) (xs : List Site) → EachSite (λ j x. VaultInvariantHolds h.ledger.edges (vault_by h.ledger h.keeping j x)) k xs
                 → EachSite (λ k x. HasLinkRoom (vault_by h.ledger h.keeping k x) (brought h.ledger.edges (Add e) (vault_by h.ledger h.keeping k x))) k xs
                 → EachSite (Takes h.ledger h.keeping (brought h.ledger.edges (Add e))) k xs
             by k [] g r = tt
@@ -212,7 +214,7 @@ module _ {R : Type 0} (t : Stage) (h : Held R) where
 
   -- A withdrawal
 
-  module _ (e : Edge) (fine : Fine W) (x : Held R) (gone : Withdrawn e h x) where
+  module _ (e : Edge) (fine : InvariantHolds W) (x : Held R) (gone : Withdrawn e h x) where
     -- what vault k is told of then
     told_without : (k : ℕ) → told_of x.ledger k ≡ delete e (told_of h.ledger k)
     told_without k =
@@ -235,9 +237,9 @@ module _ {R : Type 0} (t : Stage) (h : Held R) where
         by false = refl
 
     recalls : EachSite (Takes h.ledger h.keeping (brought h.ledger.edges (Remove e))) 0 h.sites
-    recalls = by 0 h.sites (every_site h.ledger h.keeping (Good h.ledger.edges) 0 h.sites fine.each)
+    recalls = by 0 h.sites (every_site h.ledger h.keeping (VaultInvariantHolds h.ledger.edges) 0 h.sites fine.each)
       where
-        by : (k : ℕ) (xs : List Site) → EachSite (λ j z. Good h.ledger.edges (vault_by h.ledger h.keeping j z)) k xs
+        by : (k : ℕ) (xs : List Site) → EachSite (λ j z. VaultInvariantHolds h.ledger.edges (vault_by h.ledger h.keeping j z)) k xs
             → EachSite (Takes h.ledger h.keeping (brought h.ledger.edges (Remove e))) k xs
         by k [] g = tt
         by k (z ∷ zs) g = (withdrawal_taken h.ledger.edges e (vault_by h.ledger h.keeping k z) g.0, by (suc k) zs g.1)
@@ -309,9 +311,17 @@ module _ {R : Type 0} (t : Stage) (h : Held R) where
         left false q = idle q
 
 -- an edge that was entered stands in the policy
-pub entered_ok : (s : Edges) (e : Edge) (x : Unit {0}) → entry_answer s e ≡ Ok x → with_entry s e ≡ insert e s
-entered_ok s e x q = ap (λ (r : Result (Unit {0}) CentreFault). after r) q
+pub entered_ok : (D : List Change) (s : Edges) (e : Edge) → length D ≤ 128 → Proper D e → ltb (length s) 512 ≡ true → with_entry s e ≡ insert e s
+entered_ok D s e few proper space =
+    ap (λ (r : Result (Unit {0}) PolicyFault). after r) (accepted (is_edge e) (has s e) (ltb (length s) 512) (edge_by_number few proper) space)
   where
-    after : Result (Unit {0}) CentreFault → Edges
-    after (Ok y) = insert e s
+    after : Result (Unit {0}) PolicyFault → Edges
+    after (Ok x) = insert e s
     after (Err f) = s
+
+    accepted : (b h l : Bool) → b ≡ true → l ≡ true
+        → ◌≡◌ {A = Result (Unit {0}) PolicyFault} (if not b then Err NoEdge else if h || l then Ok tt else Err Full) (Ok tt)
+    accepted false h l p q = absurd (false≢true p)
+    accepted true true l p q = refl
+    accepted true false true p q = refl
+    accepted true false false p q = absurd (false≢true q)

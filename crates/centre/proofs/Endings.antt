@@ -3,27 +3,29 @@ use Rattle.std.proofs.Common.{◌≡◌, ℕ, zero, suc, ◌+◌, ◌<◌, ◌�
 use mathlib.Core.Path.{fun_ext}
 use Rattle.std.proofs.lemmas.Bool.{lt-ltb, ltb-true, eqb-true}
 use Rattle.std.proofs.lemmas.Bool.Decides.{nat_tests}
-use Rattle.terms.specs.declared.edges.Edge.{Edge}
-use Rattle.terms.specs.declared.edges.Change.{Change}
-use Rattle.terms.specs.declared.edges.Change.TheVariants.{Add}
-use Rattle.terms.specs.Graph.{edge_of, is_user, is_user_privilege}
-use Rattle.faults.specs.declared.store.StoreFault.{StoreFault}
-use Rattle.faults.specs.declared.centre.CentreFault.{CentreFault}
-use Rattle.faults.specs.declared.centre.CentreFault.TheVariants.{NoUser, NoEdge, Unauthorised, NoVault, NoPrivilege, NothingWaiting, WrongStage, Store}
+use Rattle.edges.specs.declared.edges.Edge.{Edge}
+use Rattle.edges.specs.declared.edges.Change.{Change}
+use Rattle.edges.specs.declared.edges.Change.TheVariants.{Add}
+use Rattle.edges.specs.Edges.{edge_of, is_user, is_user_privilege}
+use Rattle.refusals.specs.declared.store.StoreFault.{StoreFault}
+use Rattle.rules.specs.declared.fault.CentreFault.{CentreFault}
+use Rattle.rules.specs.declared.fault.CentreFault.TheVariants.{NoUser, NoEdge, Unauthorised, NoVault, NoPrivilege, NothingWaiting, WrongStage, Store}
 use Rattle.calls.specs.declared.call.Call.{Call}
 use Rattle.calls.specs.declared.call.Call.TheVariants.{Declare, Keep, Seat, Command, Apply, Deliver}
 use Rattle.vaults.specs.Sites.{Site, site_at, alter, strike_at}
-use Rattle.meaning.specs.Privileges.{Proper, is_proper}
-use Rattle.meaning.specs.Paths.{User, UserPrivilege}
-use Rattle.meaning.specs.Precedence.{Rule}
-use Rattle.meaning.specs.Installation.{Vault, vault_at, Stage, naming, seating, service, Installation, with_site, with_declared, with_vaults, keeping, update}
-use Rattle.meaning.specs.Questions.{Question, asks, first_no, for_change, for_head, refused_by, store_answer, head_answer, Authorised, authorised, questions, in_naming}
-use Rattle.meaning.specs.Outcomes.{Outcome, Answer, value, after, requested, plan, decided, applied, delivered}
-use Rattle.names.specs.Naming.{declare_answer, declared_with}
-use Rattle.names.proofs.Agreements.{declaring_agrees}
-use Rattle.books.specs.declared.keeping.Keeping.{Keeping}
-use Rattle.books.specs.Keepings.{keeps}
-use Rattle.books.specs.Ledgers.{Ledger, told_of}
+use Rattle.privileges.specs.Privileges.{Proper, is_proper}
+use Rattle.graph.specs.Paths.{User, UserPrivilege}
+use Rattle.precedence.specs.Precedence.{Rule}
+use Rattle.rules.specs.Installation.{Vault, vault_at, Stage, naming, seating, service, Installation, with_site, with_declared, with_vaults, keeping, update}
+use Rattle.rules.specs.Questions.{Question, asks, first_no, for_change, for_head, refused_by, store_answer, head_answer, questions, in_naming}
+use Rattle.precedence.specs.Authorisation.{Authorised, authorised}
+use Rattle.rules.specs.Outcomes.{Outcome, Answer, value, after, requested, plan, decided, applied, delivered}
+use Rattle.privileges.specs.Declaring.{declare_answer, declared_with}
+use Rattle.centre.specs.DeclareCall.{centre_answer}
+use Rattle.centre.proofs.DeclareCall.{declaring_agrees}
+use Rattle.policy.specs.declared.keeping.Keeping.{Keeping}
+use Rattle.policy.specs.Keepings.{keeps}
+use Rattle.policy.specs.Ledgers.{Ledger, told_of}
 use Rattle.centre.specs.Worked.{store_fault}
 use Rattle.centre.specs.Holding.{Held, vault_by, vaults_from, installation}
 use Rattle.centre.specs.Heads.{head_result, perform_result, sites_after, Visited}
@@ -73,35 +75,35 @@ module _ {R : Type 0} (rule : Rule) (h : Held R) where
     -- the first no, where p, q and r answer the first three questions
     abbrev command_asks : Bool → Bool → Bool → Option CentreFault
     command_asks p q r = first_no
-        (asks NoUser (User u) p ∷ asks NoEdge (Proper h.declared (edge_of c)) q ∷ asks Unauthorised (Authorised rule (installation service h) u c) r
+        (asks NoUser (User u) p ∷ asks NoEdge (Proper h.declared (edge_of c)) q ∷ asks Unauthorised (Authorised rule h.declared h.ledger.edges u c) r
         ∷ for_change (installation service h) c (plan (installation service h) (Some c)))
 
     by_user : (b : Bool) → is_user u ≡ b
-        → command_asks (is_user u) (is_proper h.declared (edge_of c)) (authorised rule (installation service h) u c)
-        ≡ command_asks b (is_proper h.declared (edge_of c)) (authorised rule (installation service h) u c)
-    by_user b p = ap (λ (x : Bool). command_asks x (is_proper h.declared (edge_of c)) (authorised rule (installation service h) u c)) p
+        → command_asks (is_user u) (is_proper h.declared (edge_of c)) (authorised rule h.declared h.ledger.edges u c)
+        ≡ command_asks b (is_proper h.declared (edge_of c)) (authorised rule h.declared h.ledger.edges u c)
+    by_user b p = ap (λ (x : Bool). command_asks x (is_proper h.declared (edge_of c)) (authorised rule h.declared h.ledger.edges u c)) p
 
     pub no_user : is_user u ≡ false → Ends rule (installation service h) (Command u c) (Err NoUser) (installation service h)
     no_user p = ends_refused rule (installation service h) (Command u c) NoUser (by_user false p)
 
     module _ (p : is_user u ≡ true) where
       by_edge : (b : Bool) → is_proper h.declared (edge_of c) ≡ b
-          → command_asks (is_user u) (is_proper h.declared (edge_of c)) (authorised rule (installation service h) u c)
-          ≡ command_asks true b (authorised rule (installation service h) u c)
-      by_edge b q = by_user true p ∙ ap (λ (x : Bool). command_asks true x (authorised rule (installation service h) u c)) q
+          → command_asks (is_user u) (is_proper h.declared (edge_of c)) (authorised rule h.declared h.ledger.edges u c)
+          ≡ command_asks true b (authorised rule h.declared h.ledger.edges u c)
+      by_edge b q = by_user true p ∙ ap (λ (x : Bool). command_asks true x (authorised rule h.declared h.ledger.edges u c)) q
 
       pub no_edge : is_proper h.declared (edge_of c) ≡ false → Ends rule (installation service h) (Command u c) (Err NoEdge) (installation service h)
       no_edge q = ends_refused rule (installation service h) (Command u c) NoEdge (by_edge false q)
 
       module _ (q : is_proper h.declared (edge_of c) ≡ true) where
-        by_right : (b : Bool) → authorised rule (installation service h) u c ≡ b
-            → command_asks (is_user u) (is_proper h.declared (edge_of c)) (authorised rule (installation service h) u c) ≡ command_asks true true b
+        by_right : (b : Bool) → authorised rule h.declared h.ledger.edges u c ≡ b
+            → command_asks (is_user u) (is_proper h.declared (edge_of c)) (authorised rule h.declared h.ledger.edges u c) ≡ command_asks true true b
         by_right b r = by_edge true q ∙ ap (command_asks true true) r
 
-        pub no_right : authorised rule (installation service h) u c ≡ false → Ends rule (installation service h) (Command u c) (Err Unauthorised) (installation service h)
+        pub no_right : authorised rule h.declared h.ledger.edges u c ≡ false → Ends rule (installation service h) (Command u c) (Err Unauthorised) (installation service h)
         no_right r = ends_refused rule (installation service h) (Command u c) Unauthorised (by_right false r)
 
-        pub command_ends : authorised rule (installation service h) u c ≡ true → (a : Result (Unit {0}) CentreFault) (x : Installation)
+        pub command_ends : authorised rule h.declared h.ledger.edges u c ≡ true → (a : Result (Unit {0}) CentreFault) (x : Installation)
             → Changed (installation service h) c a x → Ends rule (installation service h) (Command u c) (said a) x
         command_ends r a x done =
             ends_with rule (installation service h) (Command u c) a x refl (by_right true r ∙ done.asked) done.left
@@ -125,15 +127,15 @@ altered_site l ks f k (x ∷ xs) (suc i) = ap (λ (vs : List Vault). vault_by l 
 
 -- the questions about a head, and the result of performing it
 head_asked : (i : ℕ) (ws : List Change) (x : Site) (b : Bool) (A B : Type 0)
-    → first_no (asks NoVault A b ∷ asks NothingWaiting B (ltb 0 (length ws)) ∷ refused_by (Store (record { vault = i })) (head_answer ws x))
-    ≡ refusal (cond b (head_result i ws x) (Err NoVault))
+    → first_no (asks (NoVault i) A b ∷ asks (NothingWaiting i) B (ltb 0 (length ws)) ∷ refused_by (Store i) (head_answer ws x))
+    ≡ refusal (cond b (head_result i ws x) (Err (NoVault i)))
 head_asked i ws x false A B = refl
 head_asked i [] x true A B = refl
 head_asked i (m ∷ ms) x true A B =
-    ap (λ (y : Bool). first_no (asks NothingWaiting B y ∷ refused_by (Store (record { vault = i })) (store_answer m x))) (lt-ltb 0 (suc (length ms)) (omega arith))
+    ap (λ (y : Bool). first_no (asks (NothingWaiting i) B y ∷ refused_by (Store i) (store_answer m x))) (lt-ltb 0 (suc (length ms)) (omega arith))
     ∙ by (store_answer m x)
   where
-    by : (r : Result (Unit {0}) StoreFault) → first_no (refused_by (Store (record { vault = i })) r) ≡ refusal (store_fault i r)
+    by : (r : Result (Unit {0}) StoreFault) → first_no (refused_by (Store i) r) ≡ refusal (store_fault i r)
     by (Ok y) = refl
     by (Err f) = refl
 
@@ -148,9 +150,9 @@ module _ {R : Type 0} (rule : Rule) (t : Stage) (late : in_naming t ≡ false) (
         ap first_no asks_head
         ∙ ap (λ (b : Bool). first_no (asks WrongStage (not (in_naming t) ≡ true) (not b) ∷ for_head (installation t h) i (vault_at (vaults_from h.ledger h.keeping 0 h.sites) i).site)) late
         ∙ ap (λ (y : Site). first_no (for_head (installation t h) i y)) (site_of h.ledger h.keeping 0 h.sites i)
-        ∙ ap (λ (n : ℕ). first_no (asks NoVault (i < length (vaults_from h.ledger h.keeping 0 h.sites)) (ltb i n)
-        ∷ asks NothingWaiting (0 < length (site_at h.sites i).waiting) (ltb 0 (length (site_at h.sites i).waiting))
-        ∷ refused_by (Store (record { vault = i })) (head_answer (site_at h.sites i).waiting (site_at h.sites i)))) (length_vaults h.ledger h.keeping 0 h.sites)
+        ∙ ap (λ (n : ℕ). first_no (asks (NoVault i) (i < length (vaults_from h.ledger h.keeping 0 h.sites)) (ltb i n)
+        ∷ asks (NothingWaiting i) (0 < length (site_at h.sites i).waiting) (ltb 0 (length (site_at h.sites i).waiting))
+        ∷ refused_by (Store i) (head_answer (site_at h.sites i).waiting (site_at h.sites i)))) (length_vaults h.ledger h.keeping 0 h.sites)
         ∙ head_asked i (site_at h.sites i).waiting (site_at h.sites i) (ltb i (length h.sites)) (i < length (vaults_from h.ledger h.keeping 0 h.sites)) (0 < length (site_at h.sites i).waiting)
         ∙ ap refusal (sym visited.answer)
 
@@ -203,7 +205,7 @@ visit_within i xs q = by (ltb i (length xs)) refl
   where
     by : (b : Bool) → ltb i (length xs) ≡ b → i < length xs
     by true r = ltb-true i (length xs) r
-    by false r = absurd (refused_not_ok tt NoVault (sym (ap (λ (b : Bool). cond b (head_result i (site_at xs i).waiting (site_at xs i)) (Err NoVault)) r) ∙ sym q))
+    by false r = absurd (refused_not_ok tt (NoVault i) (sym (ap (λ (b : Bool). cond b (head_result i (site_at xs i).waiting (site_at xs i)) (Err (NoVault i))) r) ∙ sym q))
 
 -- Keeping
 
@@ -238,14 +240,14 @@ module _ (l : Ledger) (ks js : Keeping) (p : ℕ) where
 module _ {R : Type 0} (rule : Rule) (h : Held R) (i p : ℕ) where
   -- the first no, where a and b answer the two questions
   abbrev keep_asks : Bool → Bool → Option CentreFault
-  keep_asks a b = first_no (asks NoVault (i < length (installation naming h).vaults) a ∷ asks NoPrivilege (UserPrivilege p) b ∷ [])
+  keep_asks a b = first_no (asks (NoVault i) (i < length (installation naming h).vaults) a ∷ asks NoPrivilege (UserPrivilege p) b ∷ [])
 
   by_vault : (b : Bool) → ltb i (length h.sites) ≡ b → keep_asks (ltb i (length (installation naming h).vaults)) (is_user_privilege p) ≡ keep_asks b (is_user_privilege p)
   by_vault b q =
       ap (λ (n : ℕ). keep_asks (ltb i n) (is_user_privilege p)) (length_vaults h.ledger h.keeping 0 h.sites) ∙ ap (λ (a : Bool). keep_asks a (is_user_privilege p)) q
 
-  pub keep_no_vault : ltb i (length h.sites) ≡ false → Ends rule (installation naming h) (Keep i p) (Err NoVault) (installation naming h)
-  keep_no_vault q = ends_refused rule (installation naming h) (Keep i p) NoVault (by_vault false q)
+  pub keep_no_vault : ltb i (length h.sites) ≡ false → Ends rule (installation naming h) (Keep i p) (Err (NoVault i)) (installation naming h)
+  keep_no_vault q = ends_refused rule (installation naming h) (Keep i p) (NoVault i) (by_vault false q)
 
   module _ (q : ltb i (length h.sites) ≡ true) where
     by_privilege : (b : Bool) → is_user_privilege p ≡ b → keep_asks (ltb i (length (installation naming h).vaults)) (is_user_privilege p) ≡ keep_asks true b
@@ -302,7 +304,7 @@ module _ {R : Type 0} (rule : Rule) (h : Held R) (i p : ℕ) where
 -- Declaring
 
 module _ {R : Type 0} (rule : Rule) (h : Held R) (c : Change) where
-  pub declare_ends : (r : Answer) (D : List Change) → r ≡ declare_answer h.declared c → D ≡ declared_with h.declared c
+  pub declare_ends : (r : Answer) (D : List Change) → r ≡ centre_answer (declare_answer h.declared c) → D ≡ declared_with h.declared c
       → Ends rule (installation naming h) (Declare c) r (installation naming (record { rule = h.rule; declared = D; ledger = h.ledger; keeping = h.keeping; sites = h.sites }))
   declare_ends r D q e =
       let a = declaring_agrees rule (installation naming h) c refl in

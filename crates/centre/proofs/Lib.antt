@@ -9,3 +9,4 @@ pub mod Visits
 pub mod Endings
 pub mod Runs
 pub mod Stages
+pub mod DeclareCall

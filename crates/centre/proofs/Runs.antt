@@ -2,22 +2,22 @@
 use Rattle.std.proofs.Common.{◌≡◌, ℕ, zero, suc, ◌+◌, ◌<◌, ◌≤◌, Bool, false, List, [], ◌∷◌, ◌++◌, map, length, take, set, filter, All, Ok, Err, inl, inr, sym, refl, ap, ◌∙◌, subst, arith}
 use mathlib.Core.Path.{fun_ext}
 use Rattle.std.proofs.lemmas.List.{take_more_set, map-append, take_all}
-use Rattle.terms.specs.declared.edges.Change.{Change}
+use Rattle.edges.specs.declared.edges.Change.{Change}
 use Rattle.calls.specs.declared.call.Call.{Call}
-use Rattle.calls.specs.declared.call.CallRecord.{CallRecord}
-use Rattle.model.specs.EdgeSets.{Edges}
+use Rattle.rules.specs.declared.record.CallRecord.{CallRecord}
+use Rattle.edge_sets.specs.EdgeSets.{Edges}
 use Rattle.vaults.specs.Sites.{Site, site_at}
-use Rattle.vaults.specs.Fitness.{FitSite}
-use Rattle.meaning.specs.Precedence.{Rule, Lawful}
-use Rattle.meaning.specs.Installation.{Vault, naming, Installation, empty, begin}
-use Rattle.meaning.specs.Outcomes.{Answer, Performs, outcome}
-use Rattle.meaning.specs.Runs.{recorded, Run, ends, calls, Reached}
-use Rattle.meaning.proofs.Deciding.{fine_computed}
-use Rattle.meaning.proofs.Administration.{reached_fine, books_hold, administration_holds}
-use Rattle.meaning.proofs.Distribution.{as_distributed}
-use Rattle.books.specs.declared.keeping.Keeping.{Keeping}
-use Rattle.books.specs.Keepings.{keeps}
-use Rattle.books.specs.Ledgers.{Ledger, is_told, told_of}
+use Rattle.vaults.specs.Fitness.{IsFitSite}
+use Rattle.precedence.specs.Precedence.{Rule, IsLawful}
+use Rattle.rules.specs.Installation.{Vault, naming, Installation, empty, begin}
+use Rattle.rules.specs.Outcomes.{Answer, Performs, outcome}
+use Rattle.rules.specs.Runs.{recorded, Run, ends, calls, Reached}
+use Rattle.rules.proofs.Deciding.{fine_computed}
+use Rattle.rules.proofs.Administration.{reached_fine, books_hold, administration_holds}
+use Rattle.rules.proofs.Distribution.{as_distributed}
+use Rattle.policy.specs.declared.keeping.Keeping.{Keeping}
+use Rattle.policy.specs.Keepings.{keeps}
+use Rattle.policy.specs.Ledgers.{Ledger, is_told, told_of}
 use Rattle.centre.specs.Sayings.{Ends}
 use Rattle.centre.specs.Worked.{Works}
 use Rattle.centre.specs.Holding.{vault_by, vaults_from, installation}
@@ -39,7 +39,7 @@ ends_performs rule w c a x r e =
     subst (λ (y : Installation). Performs rule w c a y) e.then
     (subst (λ (b : Answer). Performs rule w c b (outcome rule w c).then) e.answer (fine_computed rule w c (reached_fine r)).performs)
 
-pub laws_kept : (rule : Rule) → Lawful rule → (w : Installation) → Reached rule w → Kept rule w
+pub laws_kept : (rule : Rule) → IsLawful rule → (w : Installation) → Reached rule w → Kept rule w
 laws_kept rule law w r =
     let a = administration_holds rule law w r in
     record {
@@ -58,7 +58,7 @@ none_long [] q = refl
 none_long (x ∷ xs) q = absurd (omega arith)
 
 begins_with : (l : Ledger) (ks : Keeping) → l.edges ≡ [] → ((k p : ℕ) → keeps ks k p ≡ false) → (k : ℕ) (xs : List Site)
-    → ((v : ℕ) → v < length xs → FitSite (site_at xs v)) → vaults_from l ks k xs ≡ map empty (map limits_of xs)
+    → ((v : ℕ) → v < length xs → IsFitSite (site_at xs v)) → vaults_from l ks k xs ≡ map empty (map limits_of xs)
 begins_with l ks e n k [] f = refl
 begins_with l ks e n k (x ∷ xs) f = by (begins_with l ks e n (suc k) xs (λ v m. f (suc v) (omega arith)))
   where
@@ -73,8 +73,8 @@ begins_with l ks e n k (x ∷ xs) f = by (begins_with l ks e n (suc k) xs (λ v 
     by : vaults_from l ks (suc k) xs ≡ map empty (map limits_of xs) → vaults_from l ks k (x ∷ xs) ≡ map empty (map limits_of (x ∷ xs))
     by ih = ap (λ (v : Vault). v ∷ vaults_from l ks (suc k) xs) here ∙ ap (λ (vs : List Vault). empty (limits_of x) ∷ vs) ih
 
-fit_each : (bank xs : List Site) → Works bank xs → (v : ℕ) → v < length xs → FitSite (site_at xs v)
-fit_each bank xs (inl w) v l = let q = w.1 in subst (λ (ys : List Site). FitSite (site_at ys v)) (sym q) (w.0.each v (let m = ap length q in omega arith))
+fit_each : (bank xs : List Site) → Works bank xs → (v : ℕ) → v < length xs → IsFitSite (site_at xs v)
+fit_each bank xs (inl w) v l = let q = w.1 in subst (λ (ys : List Site). IsFitSite (site_at ys v)) (sym q) (w.0.each v (let m = ap length q in omega arith))
 fit_each bank xs (inr w) v l = let q = ap length w.1 in absurd (omega arith)
 
 module _ {R : Type 0} (rule : R) (l : Ledger) (ks : Keeping) (bank xs : List Site) (works : Works bank xs) (e : l.edges ≡ []) (n : (k p : ℕ) → keeps ks k p ≡ false) where
@@ -92,7 +92,7 @@ pub run_from_reached : (rule : Rule) (bank : List Site) (h : List CallRecord) (w
 run_from_reached rule bank h w r = (map limits_of r.worked, h, r.run)
 
 -- no answer of a run is a link's or a store's refusal
-pub own_answers : (rule : Rule) → Lawful rule → {w x : Installation} {h : List CallRecord} → Reached rule w → Run rule w h x → All OwnAnswer h
+pub own_answers : (rule : Rule) → IsLawful rule → {w x : Installation} {h : List CallRecord} → Reached rule w → Run rule w h x → All OwnAnswer h
 own_answers rule law r ends k d l = absurd (omega arith)
 own_answers rule law {w} r (calls {x = y} {c = c} {a = a} p q) zero d l = by a p
   where
@@ -101,7 +101,7 @@ own_answers rule law {w} r (calls {x = y} {c = c} {a = a} p q) zero d l = by a p
     by (Err f) p = (administration_holds rule law w r).held_up.refusals c f y p
 own_answers rule law {w} r (calls {x = y} {c = c} {a = a} p q) (suc k) d l = own_answers rule law (reached_more r p) q k d (omega arith)
 
-pub run_answers : (rule : Rule) → Lawful rule → (bank : List Site) (h : List CallRecord) (w : Installation) → RunFrom rule bank h w → All OwnAnswer h
+pub run_answers : (rule : Rule) → IsLawful rule → (bank : List Site) (h : List CallRecord) (w : Installation) → RunFrom rule bank h w → All OwnAnswer h
 run_answers rule law bank h w r = own_answers rule law (map limits_of r.worked, [], ends) r.run
 
 -- Going through a list of records, and writing each answer in its place

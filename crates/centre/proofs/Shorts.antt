@@ -1,7 +1,7 @@
 -- Looking for the lowest vault that is short of room: those below v have been asked.
 use Rattle.std.proofs.Common.{◌≡◌, ℕ, suc, ◌+◌, ◌-◌, ◌<◌, ◌≤◌, Bool, true, false, Some, None, Err, Option, Result, sym, refl, ap, ◌∙◌, subst, arith}
-use Rattle.faults.specs.declared.centre.CentreFault.{CentreFault}
-use Rattle.faults.specs.declared.centre.CentreFault.TheVariants.{StoreRoom}
+use Rattle.rules.specs.declared.fault.CentreFault.{CentreFault}
+use Rattle.rules.specs.declared.fault.CentreFault.TheVariants.{StoreRoom}
 use Rattle.centre.specs.Room.{first_short, earliest, room_by}
 
 -- what was found, or what is still to come
@@ -33,7 +33,7 @@ module _ (stores links : ℕ → Bool) (n : ℕ) where
 
   module _ (v : ℕ) (found : Option ℕ) (a : Asked stores links n v found) where
     module _ (l : v < n) where
-      pub store_short : stores v ≡ false → Err (StoreRoom (record { vault = v })) ≡ room_by (first_short stores 0 n) (first_short links 0 n)
+      pub store_short : stores v ≡ false → Err (StoreRoom v) ≡ room_by (first_short stores 0 n) (first_short links 0 n)
       store_short q = ap (λ (o : Option ℕ). room_by o (first_short links 0 n)) (sym (a.store ∙ here stores v n l q))
 
       pub asked_more : stores v ≡ true → Asked stores links n (v + 1) (earliest found v (links v))

@@ -2,14 +2,14 @@
 use Rattle.std.proofs.Common.{◌≡◌, Bool, true, false, ◌∷◌, Ok, Err, sym, refl, ap, subst}
 use Rattle.calls.specs.declared.call.Call.{Call}
 use Rattle.calls.specs.declared.call.Call.TheVariants.{EndNaming, Open}
-use Rattle.faults.specs.declared.centre.CentreFault.TheVariants.{WrongStage}
-use Rattle.meaning.specs.Precedence.{Rule, Lawful}
-use Rattle.meaning.specs.Installation.{Stage, naming, seating, service}
-use Rattle.meaning.specs.Questions.{asks, first_no, belongs, own_questions}
-use Rattle.meaning.specs.Outcomes.{Answer, requested, plan, Performs}
-use Rattle.meaning.specs.Runs.{Reached}
-use Rattle.meaning.proofs.Invariant.{Fine}
-use Rattle.meaning.proofs.Administration.{reached_fine}
+use Rattle.rules.specs.declared.fault.CentreFault.TheVariants.{WrongStage}
+use Rattle.precedence.specs.Precedence.{Rule, IsLawful}
+use Rattle.rules.specs.Installation.{Stage, naming, seating, service}
+use Rattle.rules.specs.Questions.{asks, first_no, belongs, own_questions}
+use Rattle.rules.specs.Outcomes.{Answer, requested, plan, Performs}
+use Rattle.rules.specs.Runs.{Reached}
+use Rattle.rules.proofs.Invariant.{InvariantHolds}
+use Rattle.rules.proofs.Administration.{reached_fine}
 use Rattle.centre.specs.Holding.{Held, installation}
 use Rattle.centre.specs.Sayings.{Ends}
 use Rattle.centre.specs.Promises.{Kept, Brought, Does}
@@ -29,7 +29,7 @@ module _ {R : Type 0} (over : R → Rule) (t : Stage) (h v x : Held R) (c : Call
 
 -- the same, where a call's end is known of a state in order
 module _ {R : Type 0} (over : R → Rule) (t : Stage) (h x : Held R) (c : Call) (a : Answer) (b : Brought over t h)
-    (e : Fine (installation t h) → Ends (over h.rule) (installation t h) c a (installation t x)) (r : x.rule ≡ h.rule) where
+    (e : InvariantHolds (installation t h) → Ends (over h.rule) (installation t h) c a (installation t x)) (r : x.rule ≡ h.rule) where
   pub brought_fine : Brought over t x
   brought_fine = brought_on over t t h x c a b (e (reached_fine b.reached)) r
 
@@ -67,5 +67,5 @@ module _ {R : Type 0} (over : R → Rule) (t : Stage) (h v : Held R) (b : Brough
       (ends_refused (over h.rule) (installation t h) c WrongStage
       (ap (λ (x : Bool). first_no (asks WrongStage (belongs c t ≡ true) x ∷ own_questions (over h.rule) (installation t h) c (plan (installation t h) (requested c)))) n)) refl)
 
-  pub kept : ((r : R) → Lawful (over r)) → Kept (over v.rule) (installation t v)
+  pub kept : ((r : R) → IsLawful (over r)) → Kept (over v.rule) (installation t v)
   kept law = subst (λ (w : Held R). Kept (over w.rule) (installation t w)) is (laws_kept (over h.rule) (law h.rule) (installation t h) b.reached)

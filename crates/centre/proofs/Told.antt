@@ -1,15 +1,15 @@
 -- What the vaults are told of by a ledger, as sets: members alone tell.
 use Rattle.std.proofs.Common.{Decides, ◌≡◌, ℕ, suc, Bool, true, false, cond, ◌||◌, ◌⊎◌, [], ◌∷◌, length, filter, inl, inr, sym, refl, ap, ◌∙◌}
 use Rattle.std.proofs.lemmas.Bool.{false≢true, cases_Bool}
-use Rattle.terms.specs.declared.edges.Edge.{Edge}
-use Rattle.terms.specs.Graph.{same, before}
-use Rattle.model.specs.EdgeSets.{Edges, Ascending, has, insert, ◌∈◌, ◌∉◌}
-use Rattle.meaning.proofs.Deciding.{kept_has, kept_ascending}
-use Rattle.books.specs.declared.vault_set.VaultSet.{VaultSet}
-use Rattle.books.specs.VaultSets.{has_vault}
-use Rattle.books.specs.Ledgers.{Ledger, is_told, told_of}
-use Rattle.books.proofs.VaultBits.{has_nobody}
-use Rattle.books.proofs.Besides.{beside_absent}
+use Rattle.edges.specs.declared.edges.Edge.{Edge}
+use Rattle.edges.specs.Edges.{same, before}
+use Rattle.edge_sets.specs.EdgeSets.{Edges, Ascending, has, insert, ◌∈◌, ◌∉◌}
+use Rattle.rules.proofs.Deciding.{kept_has, kept_ascending}
+use Rattle.policy.specs.declared.vault_set.VaultSet.{VaultSet}
+use Rattle.policy.specs.VaultSets.{has_vault}
+use Rattle.policy.specs.Ledgers.{Ledger, is_told, told_of}
+use Rattle.policy.proofs.VaultBits.{has_nobody}
+use Rattle.policy.proofs.Besides.{beside_absent}
 
 -- Filters
 

@@ -1,20 +1,19 @@
 -- From vault to vault, by structure: what is altered, what holds of each, and what each is asked.
 use Rattle.std.proofs.Common.{◌≡◌, ℕ, zero, suc, ◌+◌, ◌<◌, Bool, true, false, List, [], ◌∷◌, ◌++◌, map, length, Some, None, Ok, Err, Option, Result, is_ok, is_some, ltb, sym, refl, ap, ◌∙◌, subst, arith}
 use Rattle.std.proofs.lemmas.Bool.{false≢true}
-use Rattle.terms.specs.declared.edges.Change.{Change}
-use Rattle.terms.specs.Graph.{edge_of, vault_edge}
-use Rattle.faults.specs.declared.link.LinkFault.{LinkFault}
-use Rattle.faults.specs.declared.link.LinkFault.TheVariants.{NoVaultEdge, Full}
-use Rattle.faults.specs.declared.centre.VaultPlace.{VaultPlace}
-use Rattle.faults.specs.declared.centre.CentreFault.{CentreFault}
-use Rattle.links.specs.Waiting.{send_answer, sent}
+use Rattle.edges.specs.declared.edges.Change.{Change}
+use Rattle.edges.specs.Edges.{edge_of, vault_edge}
+use Rattle.refusals.specs.declared.link.LinkFault.{LinkFault}
+use Rattle.refusals.specs.declared.link.LinkFault.TheVariants.{NoVaultEdge, Full}
+use Rattle.rules.specs.declared.fault.CentreFault.{CentreFault}
+use Rattle.links.specs.Links.{send_answer, sent}
 use Rattle.vaults.specs.Sites.{Site, site_at, with_waiting, send_to}
-use Rattle.meaning.specs.Installation.{Vault}
-use Rattle.meaning.specs.Sending.{performs, taken, send, send_each}
-use Rattle.meaning.specs.Questions.{Question, asks, first_no, at_each, link_takes}
-use Rattle.meaning.proofs.Rounds.{Every}
-use Rattle.books.specs.declared.keeping.Keeping.{Keeping}
-use Rattle.books.specs.Ledgers.{Ledger, told_of}
+use Rattle.rules.specs.Installation.{Vault}
+use Rattle.rules.specs.Sending.{performs, taken, send, send_each}
+use Rattle.rules.specs.Questions.{Question, asks, first_no, at_each, link_takes}
+use Rattle.rules.proofs.Rounds.{Every}
+use Rattle.policy.specs.declared.keeping.Keeping.{Keeping}
+use Rattle.policy.specs.Ledgers.{Ledger, told_of}
 use Rattle.centre.specs.Worked.{AlteredBy, sent_all}
 use Rattle.centre.specs.Holding.{vault_by, vaults_from}
 use Rattle.centre.specs.Room.{first_short}
@@ -102,9 +101,9 @@ all_wait (m ∷ ms) x q = by (all_wait ms) (send_answer x.link_limit x.waiting m
     by ih (Err f) r h = absurd (refused_not_ok tt f h)
 
 -- a refusal at the vault that was found, or what comes after
-abbrev pub refused_at : (VaultPlace → CentreFault) → Option CentreFault → Option ℕ → Option CentreFault
+abbrev pub refused_at : (ℕ → CentreFault) → Option CentreFault → Option ℕ → Option CentreFault
 refused_at fault rest None = rest
-refused_at fault rest (Some j) = Some (fault (record { vault = j }))
+refused_at fault rest (Some j) = Some (fault j)
 
 -- The vaults after messages were sent, and what was asked of each before
 
@@ -135,7 +134,7 @@ module _ (l : Ledger) (ks : Keeping) (msgs : Vault → List Change) where
       by ih = rw (here, ih) refl
 
   -- one question at each vault: the first no is that of the lowest vault that is short
-  module _ (fault : VaultPlace → CentreFault) (A : Vault → List Change → Type 0) (test : Vault → List Change → Bool) (fits : ℕ → Bool) where
+  module _ (fault : ℕ → CentreFault) (A : Vault → List Change → Type 0) (test : Vault → List Change → Bool) (fits : ℕ → Bool) where
     abbrev pub Tells : ℕ → Site → Type 0
     Tells k x = test (vault_by l ks k x) (msgs (vault_by l ks k x)) ≡ fits k
 
@@ -147,7 +146,7 @@ module _ (l : Ledger) (ks : Keeping) (msgs : Vault → List Change) where
       where
         by : (b : Bool) → first_no (at_each (λ i v ms. asks (fault i) (A v ms) (test v ms) ∷ []) (suc k) (vaults_from l ks (suc k) xs) (map msgs (vaults_from l ks (suc k) xs)) ++ rest)
             ≡ refused_at fault (first_no rest) (first_short fits (suc k) (length xs))
-            → first_no (asks (fault (record { vault = k })) (A (vault_by l ks k x) (msgs (vault_by l ks k x))) b ∷ (at_each (λ i v ms. asks (fault i) (A v ms) (test v ms) ∷ []) (suc k) (vaults_from l ks (suc k) xs) (map msgs (vaults_from l ks (suc k) xs)) ++ rest))
+            → first_no (asks (fault k) (A (vault_by l ks k x) (msgs (vault_by l ks k x))) b ∷ (at_each (λ i v ms. asks (fault i) (A v ms) (test v ms) ∷ []) (suc k) (vaults_from l ks (suc k) xs) (map msgs (vaults_from l ks (suc k) xs)) ++ rest))
             ≡ refused_at fault (first_no rest) (elim b [ true ↦ first_short fits (suc k) (length xs) | false ↦ Some k ])
         by true ih = ih
         by false ih = refl

@@ -2,19 +2,19 @@
 use Rattle.std.proofs.Common.{◌≡◌, ℕ, zero, suc, ◌<◌, Bool, true, false, cond, ◌&&◌, if◌then◌else◌, List, [], ◌∷◌, length, set, Some, Ok, Err, Result, sym, refl, ap, ◌∙◌}
 use Rattle.std.proofs.lemmas.Bool.{lt-ltb}
 use Rattle.std.proofs.lemmas.List.{set-get_or}
-use Rattle.terms.specs.declared.edges.Edge.{Edge}
-use Rattle.terms.specs.declared.edges.Change.{Change}
-use Rattle.terms.specs.declared.edges.Change.TheVariants.{Add}
-use Rattle.terms.specs.Graph.{vault_edge}
-use Rattle.faults.specs.declared.store.StoreFault.{StoreFault}
-use Rattle.faults.specs.declared.store.StoreFault.TheVariants.{NoVaultEdge, Full}
-use Rattle.faults.specs.declared.centre.CentreFault.TheVariants.{NoVault}
-use Rattle.model.specs.EdgeSets.{Edges, insert}
-use Rattle.stores.specs.Putting.{has_room, put_answer, put}
-use Rattle.links.specs.Waiting.{first}
+use Rattle.edges.specs.declared.edges.Edge.{Edge}
+use Rattle.edges.specs.declared.edges.Change.{Change}
+use Rattle.edges.specs.declared.edges.Change.TheVariants.{Add}
+use Rattle.edges.specs.Edges.{vault_edge}
+use Rattle.refusals.specs.declared.store.StoreFault.{StoreFault}
+use Rattle.refusals.specs.declared.store.StoreFault.TheVariants.{NoVaultEdge, Full}
+use Rattle.rules.specs.declared.fault.CentreFault.TheVariants.{NoVault}
+use Rattle.edge_sets.specs.EdgeSets.{Edges, insert}
+use Rattle.stores.specs.Stores.{has_room, put_answer, put}
+use Rattle.links.specs.Links.{first}
 use Rattle.vaults.specs.Sites.{Site, no_site, site_at, alter, with_table, put_into, strike_at}
-use Rattle.meaning.proofs.Privileges.{some_equal, some_none}
-use Rattle.meaning.specs.Outcomes.{performed, applied, delivered}
+use Rattle.privileges.proofs.Declared.{some_equal, some_none}
+use Rattle.rules.specs.Outcomes.{performed, applied, delivered}
 use Rattle.centre.specs.Worked.{store_fault}
 use Rattle.centre.specs.Heads.{head_result, perform_result, sites_after}
 use Rattle.centre.proofs.Working.{alter_here}
@@ -39,7 +39,7 @@ first_is (w ∷ ws) m q = (ws, ap (λ (x : Change). x ∷ ws) (some_equal q))
 module _ (xs : List Site) (v : ℕ) (e : Edge) (l : v < length xs) (q : first (site_at xs v).waiting ≡ Some (Add e)) where
   pub put_result : store_fault v (put_answer (site_at xs v).store_limit (site_at xs v).table e) ≡ perform_result v xs
   put_result =
-      sym (ap (λ (b : Bool). cond b (head_result v (site_at xs v).waiting (site_at xs v)) (Err NoVault)) (lt-ltb v (length xs) l)
+      sym (ap (λ (b : Bool). cond b (head_result v (site_at xs v).waiting (site_at xs v)) (Err (NoVault v))) (lt-ltb v (length xs) l)
       ∙ ap (λ (ws : List Change). head_result v ws (site_at xs v)) (first_is (site_at xs v).waiting (Add e) q).1)
 
   pub put_sites : alter v (put_into e) xs ≡ sites_after applied v (store_fault v (put_answer (site_at xs v).store_limit (site_at xs v).table e)) xs

@@ -1,20 +1,20 @@
 -- The first message that waits at a vault, performed on its table.
 use Rattle.std.specs.Prelude.{◌≡◌, ℕ, cond, List, [], ◌∷◌, length, Ok, Err, Result, nat_lt}
-use Rattle.terms.specs.declared.edges.Change.{Change}
-use Rattle.faults.specs.declared.centre.CentreFault.{CentreFault}
-use Rattle.faults.specs.declared.centre.CentreFault.TheVariants.{NoVault, NothingWaiting}
+use Rattle.edges.specs.declared.edges.Change.{Change}
+use Rattle.rules.specs.declared.fault.CentreFault.{CentreFault}
+use Rattle.rules.specs.declared.fault.CentreFault.TheVariants.{NoVault, NothingWaiting}
 use Rattle.vaults.specs.Sites.{Site, site_at, alter}
-use Rattle.meaning.specs.Questions.{store_answer}
+use Rattle.rules.specs.Questions.{store_answer}
 use Rattle.centre.specs.Worked.{store_fault}
 use Rattle.centre.specs.Holding.{Held}
 use Rattle.centre.specs.Sendings.{SameRest}
 
 abbrev pub head_result : ℕ → List Change → Site → Result (Unit {0}) CentreFault
-head_result k [] x = Err NothingWaiting
+head_result k [] x = Err (NothingWaiting k)
 head_result k (m ∷ ms) x = store_fault k (store_answer m x)
 
 abbrev pub perform_result : ℕ → List Site → Result (Unit {0}) CentreFault
-perform_result k xs = cond (nat_lt k (length xs)) (head_result k (site_at xs k).waiting (site_at xs k)) (Err NoVault)
+perform_result k xs = cond (nat_lt k (length xs)) (head_result k (site_at xs k).waiting (site_at xs k)) (Err (NoVault k))
 
 -- the site of vault k is altered by f if that was not refused, and nothing else is
 abbrev pub sites_after : (Site → Site) → ℕ → Result (Unit {0}) CentreFault → List Site → List Site

@@ -1,11 +1,11 @@
 -- What a centre holds, and the installation that this is.
 use Rattle.std.specs.Prelude.{ℕ, suc, List, [], ◌∷◌}
-use Rattle.terms.specs.declared.edges.Change.{Change}
+use Rattle.edges.specs.declared.edges.Change.{Change}
 use Rattle.vaults.specs.Sites.{Site}
-use Rattle.meaning.specs.Installation.{Vault, Stage, Installation}
-use Rattle.books.specs.declared.keeping.Keeping.{Keeping}
-use Rattle.books.specs.Keepings.{keeps}
-use Rattle.books.specs.Ledgers.{Ledger, told_of}
+use Rattle.rules.specs.Installation.{Vault, Stage, Installation}
+use Rattle.policy.specs.declared.keeping.Keeping.{Keeping}
+use Rattle.policy.specs.Keepings.{keeps}
+use Rattle.policy.specs.Ledgers.{Ledger, told_of}
 
 -- its rule, its books and the sites of the vaults that it works
 pub record Held (R : Type 0) : Type 0 where

@@ -1,10 +1,10 @@
 -- The installation at whatever stage it is.
 use Rattle.std.specs.Prelude.{◌≡◌}
 use Rattle.calls.specs.declared.call.Call.{Call}
-use Rattle.meaning.specs.Precedence.{Rule}
-use Rattle.meaning.specs.Outcomes.{Answer, Performs}
-use Rattle.meaning.specs.Installation.{naming, seating, service}
-use Rattle.meaning.specs.Installation as rules
+use Rattle.precedence.specs.Precedence.{Rule}
+use Rattle.rules.specs.Outcomes.{Answer, Performs}
+use Rattle.rules.specs.Installation.{naming, seating, service}
+use Rattle.rules.specs.Installation as rules
 use Rattle.centre.specs.declared.installation.Installation.{Installation}
 use Rattle.centre.specs.declared.installation.Installation.TheVariants.{Naming, Seating, Service}
 use Rattle.centre.specs.Holding.{Held, installation}

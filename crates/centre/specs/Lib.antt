@@ -8,3 +8,4 @@ pub mod Heads
 pub mod Offices
 pub mod Promises
 pub mod Installed
+pub mod DeclareCall

@@ -1,6 +1,6 @@
 -- What an office of the centre holds.
 use Rattle.centre.specs.declared.office.Office.{Office}
-use Rattle.books.specs.Books.{ledger}
+use Rattle.policy.specs.Books.{ledger}
 use Rattle.centre.specs.Holding.{Held}
 
 module _ {B R : Type 0} where

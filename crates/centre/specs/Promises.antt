@@ -1,21 +1,21 @@
 -- What the public calls of the centre promise.
 use Rattle.std.specs.Prelude.{◌≡◌, ℕ, ◌<◌, length, slice_index_or, List, map, Ok, Err, Result}
-use Rattle.terms.specs.declared.edges.Change.{Change}
-use Rattle.faults.specs.declared.layers.Layer.TheVariants.{Centre}
-use Rattle.faults.specs.Numbers.{centre_layer}
+use Rattle.edges.specs.declared.edges.Change.{Change}
+use Rattle.refusals.specs.declared.layer.Layer.TheVariants.{Centre}
+use Rattle.rules.specs.Faults.{centre_layer}
 use Rattle.calls.specs.declared.call.Call.{Call}
-use Rattle.faults.specs.declared.work.WorkFault.{WorkFault}
-use Rattle.faults.specs.declared.work.WorkFault.TheVariants as work
+use Rattle.rules.specs.declared.fault.WorkFault.{WorkFault}
+use Rattle.rules.specs.declared.fault.WorkFault.TheVariants as work
 use Rattle.calls.specs.declared.call.Call.TheVariants.{Command}
-use Rattle.calls.specs.declared.call.CallRecord.{CallRecord}
-use Rattle.calls.specs.declared.call.CommandRecord.{CommandRecord}
+use Rattle.rules.specs.declared.record.CallRecord.{CallRecord}
+use Rattle.rules.specs.declared.record.CommandRecord.{CommandRecord}
 use Rattle.vaults.specs.Sites.{Site}
-use Rattle.meaning.specs.Precedence.{Rule}
-use Rattle.meaning.specs.Installation.{Stage, Installation, Limits, begin}
-use Rattle.meaning.specs.Outcomes.{Answer, Performs}
-use Rattle.meaning.specs.Runs.{recorded, Run, Reached}
-use Rattle.meaning.specs.Laws.{BooksKept, TablesFollow, NobodyHeldUp, GainsNothing, MessagesNeeded, Opened}
-use Rattle.meaning.specs.Distribution.{Agrees, spread_all, nowhere}
+use Rattle.precedence.specs.Precedence.{Rule}
+use Rattle.rules.specs.Installation.{Stage, Installation, Limits, begin}
+use Rattle.rules.specs.Outcomes.{Answer, Performs}
+use Rattle.rules.specs.Runs.{recorded, Run, Reached}
+use Rattle.rules.specs.Laws.{BooksKept, TablesFollow, NobodyHeldUp, GainsNothing, MessagesNeeded, Opened}
+use Rattle.rules.specs.Distribution.{Agrees, spread_all, nowhere}
 use Rattle.centre.specs.Worked.{Works}
 use Rattle.centre.specs.Holding.{Held, installation}
 use Rattle.centre.specs.Sayings.{said}
@@ -74,4 +74,4 @@ AcceptedBelow list n = (k : ℕ) (d : CommandRecord) → k < n → (slice_index_
 abbrev pub FirstRefusal : List CommandRecord → Result (Unit {0}) WorkFault → Type 0
 FirstRefusal list (Ok x) = AcceptedBelow list (length list)
 FirstRefusal list (Err (work.Command p f)) =
-    (p.record < length list) × ((d : CommandRecord) → (slice_index_or list p.record d).answer ≡ Err f) × AcceptedBelow list p.record
+    (p < length list) × ((d : CommandRecord) → (slice_index_or list p d).answer ≡ Err f) × AcceptedBelow list p

@@ -1,18 +1,18 @@
 -- What is found out about an edge before it is added, and whether there is room for it.
 use Rattle.std.specs.Prelude.{◌≡◌, ℕ, zero, suc, ◌+◌, ◌*◌, Bool, true, false, length, Some, None, Ok, Err, Option, Result, nat_le}
-use Rattle.terms.specs.declared.edges.Edge.{Edge}
-use Rattle.terms.specs.Graph.{is_role}
-use Rattle.faults.specs.declared.centre.CentreFault.{CentreFault}
-use Rattle.faults.specs.declared.centre.CentreFault.TheVariants.{StoreRoom, LinkRoom}
-use Rattle.model.specs.BitRows.{has_role}
+use Rattle.edges.specs.declared.edges.Edge.{Edge}
+use Rattle.edges.specs.Edges.{is_role}
+use Rattle.rules.specs.declared.fault.CentreFault.{CentreFault}
+use Rattle.rules.specs.declared.fault.CentreFault.TheVariants.{StoreRoom, LinkRoom}
+use Rattle.edge_sets.specs.BitRows.{has_role}
 use Rattle.vaults.specs.Sites.{site_at}
-use Rattle.meaning.specs.Paths.{reaches}
-use Rattle.meaning.specs.Sending.{concerns}
-use Rattle.books.specs.declared.addition.Addition.{Addition}
-use Rattle.books.specs.VaultSets.{has_vault}
-use Rattle.books.specs.Keepings.{keeps}
-use Rattle.books.specs.Ledgers.{told_of}
-use Rattle.books.specs.Additions.{due_number}
+use Rattle.graph.specs.Paths.{reaches}
+use Rattle.graph.specs.Paths.{concerns}
+use Rattle.policy.specs.declared.addition.Addition.{Addition}
+use Rattle.policy.specs.VaultSets.{has_vault}
+use Rattle.policy.specs.Keepings.{keeps}
+use Rattle.policy.specs.Ledgers.{told_of}
+use Rattle.policy.specs.Additions.{due_number}
 use Rattle.centre.specs.Holding.{Held}
 
 module _ {R : Type 0} where
@@ -44,8 +44,8 @@ earliest None v false = Some v
 
 -- the stores are asked before the links, and the refusal names the lowest vault that is short
 abbrev pub room_by : Option ℕ → Option ℕ → Result (Unit {0}) CentreFault
-room_by (Some k) o = Err (StoreRoom (record { vault = k }))
-room_by None (Some k) = Err (LinkRoom (record { vault = k }))
+room_by (Some k) o = Err (StoreRoom k)
+room_by None (Some k) = Err (LinkRoom k)
 room_by None None = Ok tt
 
 module _ {R : Type 0} where

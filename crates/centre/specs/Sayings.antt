@@ -1,12 +1,12 @@
 -- What the centre's calls say, in the words of the rules.
 use Rattle.std.specs.Prelude.{◌≡◌, Some, None, Ok, Err, Option, Result}
-use Rattle.terms.specs.declared.edges.Change.{Change}
-use Rattle.faults.specs.declared.centre.CentreFault.{CentreFault}
+use Rattle.edges.specs.declared.edges.Change.{Change}
+use Rattle.rules.specs.declared.fault.CentreFault.{CentreFault}
 use Rattle.calls.specs.declared.call.Call.{Call}
-use Rattle.meaning.specs.Precedence.{Rule}
-use Rattle.meaning.specs.Installation.{Installation}
-use Rattle.meaning.specs.Questions.{first_no, for_change}
-use Rattle.meaning.specs.Outcomes.{Answer, changed, plan, outcome}
+use Rattle.precedence.specs.Precedence.{Rule}
+use Rattle.rules.specs.Installation.{Installation}
+use Rattle.rules.specs.Questions.{first_no, for_change}
+use Rattle.rules.specs.Outcomes.{Answer, changed, plan, outcome}
 
 -- a call without a value of its own answers 0
 abbrev pub said : Result (Unit {0}) CentreFault → Answer

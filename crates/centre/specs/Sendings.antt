@@ -1,14 +1,14 @@
 -- What is sent, and noted, when an edge comes or goes.
 use Rattle.std.specs.Prelude.{◌≡◌, ℕ, cond, not, ◌&&◌, ◌||◌, [], map, filter}
-use Rattle.terms.specs.declared.edges.Edge.{Edge}
-use Rattle.terms.specs.declared.edges.Change.TheVariants.{Add, Remove}
-use Rattle.terms.specs.Graph.{same}
-use Rattle.model.specs.EdgeSets.{Edges, has, delete}
+use Rattle.edges.specs.declared.edges.Edge.{Edge}
+use Rattle.edges.specs.declared.edges.Change.TheVariants.{Add, Remove}
+use Rattle.edges.specs.Edges.{same}
+use Rattle.edge_sets.specs.EdgeSets.{Edges, has, delete}
 use Rattle.vaults.specs.Sites.{send_to}
-use Rattle.books.specs.declared.addition.Addition.{Addition}
-use Rattle.books.specs.VaultSets.{has_vault}
-use Rattle.books.specs.Ledgers.{Ledger, is_told}
-use Rattle.books.specs.Additions.{rises}
+use Rattle.policy.specs.declared.addition.Addition.{Addition}
+use Rattle.policy.specs.VaultSets.{has_vault}
+use Rattle.policy.specs.Ledgers.{Ledger, is_told}
+use Rattle.policy.specs.Additions.{rises}
 use Rattle.centre.specs.Worked.{AlteredBy, sent_all}
 use Rattle.centre.specs.Holding.{Held}
 

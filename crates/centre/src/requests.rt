@@ -1,21 +1,20 @@
 ghost use Rattle.std.specs.Prelude.{◌≡◌, false};
 ghost use Rattle.calls.specs.declared.call.Call.TheVariants.{Declare, Keep, Seat, Command, Apply, Deliver};
-ghost use Rattle.meaning.specs.Installation.{Stage, naming, seating, service};
-ghost use Rattle.meaning.specs.Questions.{in_naming};
-ghost use Rattle.meaning.specs.Outcomes.{applied, delivered};
-ghost use Rattle.meaning.proofs.Invariant.{Fine};
+ghost use Rattle.rules.specs.Installation.{Stage, naming, seating, service};
+ghost use Rattle.rules.specs.Questions.{in_naming};
+ghost use Rattle.rules.specs.Outcomes.{applied, delivered};
+ghost use Rattle.rules.proofs.Invariant.{InvariantHolds};
 ghost use Rattle.centre.specs.Holding.{installation};
 ghost use Rattle.centre.specs.Offices.{held};
 ghost use Rattle.centre.specs.Heads.{Visited};
 ghost use Rattle.centre.specs.Sayings.{said, Ends};
 
 use crate::office::Office;
-use books::rights::is_authorised;
-use faults::centre::CentreFault;
-use precedence::precedence::Precedence;
-use terms::edges::{Change, Edge};
-use terms::kinds::Kind;
-use vaults::bank::Bank;
+use edges::{Change, Edge, Kind};
+use policy::rights::is_authorised;
+use precedence::Precedence;
+use rules::CentreFault;
+use vaults::Bank;
 
 impl<B: Bank, R: Precedence> Office<B, R> {
     // Names the administrative privilege that allows a change.
@@ -23,7 +22,7 @@ impl<B: Bank, R: Precedence> Office<B, R> {
         ensures ends { Ends (R.over self.old.rule) (installation naming (held self.old)) (Declare change) result (installation naming (held self.new)) }
         ensures rule { self.new.rule ≡ self.old.rule }
     {
-        self.names.declare(change)
+        Ok(self.names.declare(change)?)
     }
 
     // Has a vault keep a user privilege.
@@ -32,7 +31,7 @@ impl<B: Bank, R: Precedence> Office<B, R> {
         ensures rule { self.new.rule ≡ self.old.rule }
     {
         if vault >= self.vaults.count() {
-            return Err(CentreFault::NoVault);
+            return Err(CentreFault::NoVault { vault });
         }
         if !Kind::UserPrivilege.has(privilege) {
             return Err(CentreFault::NoPrivilege);
@@ -43,7 +42,7 @@ impl<B: Bank, R: Precedence> Office<B, R> {
 
     // Adds an edge without asking who wants it.
     pub(crate) fn seat(&mut self, edge: Edge) -> Result<(), CentreFault>
-        ensures ends { Fine (installation seating (held self.old)) → Ends (R.over self.old.rule) (installation seating (held self.old)) (Seat edge) (said result) (installation seating (held self.new)) }
+        ensures ends { InvariantHolds (installation seating (held self.old)) → Ends (R.over self.old.rule) (installation seating (held self.old)) (Seat edge) (said result) (installation seating (held self.new)) }
         ensures rule { self.new.rule ≡ self.old.rule }
     {
         if !self.names.has_edge(edge) {
@@ -54,7 +53,7 @@ impl<B: Bank, R: Precedence> Office<B, R> {
 
     // A user's wish to add or to remove an edge.
     pub(crate) fn command(&mut self, user: u16, change: Change) -> Result<(), CentreFault>
-        ensures ends { Fine (installation service (held self.old)) → Ends (R.over self.old.rule) (installation service (held self.old)) (Command user change) (said result) (installation service (held self.new)) }
+        ensures ends { InvariantHolds (installation service (held self.old)) → Ends (R.over self.old.rule) (installation service (held self.old)) (Command user change) (said result) (installation service (held self.new)) }
         ensures rule { self.new.rule ≡ self.old.rule }
     {
         if !Kind::User.has(user) {
@@ -74,10 +73,10 @@ impl<B: Bank, R: Precedence> Office<B, R> {
         ensures { Visited applied vault (held self.old) result (held self.new) }
     {
         if vault >= self.vaults.count() {
-            return Err(CentreFault::NoVault);
+            return Err(CentreFault::NoVault { vault });
         }
         match self.vaults.head(vault) {
-            None => Err(CentreFault::NothingWaiting),
+            None => Err(CentreFault::NothingWaiting { vault }),
             Some(Change::Add(edge)) => self.vaults.put(vault, edge),
             Some(Change::Remove(edge)) => {
                 self.vaults.drop(vault, edge);

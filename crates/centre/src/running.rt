@@ -1,9 +1,9 @@
 ghost use Rattle.std.specs.Prelude.{◌≡◌, ◌++◌, ◌∷◌, [], List, Ok, Err, map, All, IfOk, IfErr};
-ghost use Rattle.calls.specs.declared.call.CallRecord.{CallRecord as Record};
-ghost use Rattle.meaning.specs.Installation as rules;
-ghost use Rattle.meaning.specs.Installation.{service};
-ghost use Rattle.meaning.specs.Outcomes.{Performs};
-ghost use Rattle.meaning.specs.Runs.{recorded, Run};
+ghost use Rattle.rules.specs.declared.record.CallRecord.{CallRecord as Record};
+ghost use Rattle.rules.specs.Installation as rules;
+ghost use Rattle.rules.specs.Installation.{service};
+ghost use Rattle.rules.specs.Outcomes.{Performs};
+ghost use Rattle.rules.specs.Runs.{recorded, Run};
 ghost use Rattle.centre.specs.Sayings.{said};
 ghost use Rattle.centre.specs.declared.installation.Installation.TheVariants as at_stage;
 ghost use Rattle.centre.specs.Installed.{state, rule_of, Gives};
@@ -14,11 +14,11 @@ use crate::installation::Installation;
 use crate::naming::Naming;
 use crate::seating::Seating;
 use crate::service::Service;
-use calls::call::{Call, CallRecord};
-use faults::centre::CentreFault;
-use precedence::precedence::Precedence;
+use calls::Call;
+use precedence::Precedence;
+use rules::{CallRecord, CentreFault};
 use std::alloc::Global;
-use vaults::bank::Bank;
+use vaults::Bank;
 
 // The answer to a call that has no value of its own.
 fn zero(answer: Result<(), CentreFault>) -> Result<u16, CentreFault>
@@ -81,8 +81,8 @@ impl<B: Bank, R: Precedence> Seating<B, R> {
 }
 
 impl<B: Bank, R: Precedence> Service<B, R> {
-    // A call to an installation in service, which stays with its holder; 20 to one that belongs to an earlier
-    // stage.
+    /// A call to an installation in service, which stays with its holder; 20 to one that belongs to an earlier
+    /// stage.
     pub fn hear(&mut self, call: Call) -> Result<u16, CentreFault>
         ensures { Does R.over service self.old call result self.new }
     {
@@ -117,7 +117,7 @@ fn step<B: Bank, R: Precedence>(
     }
 }
 
-// Gives one call at whatever stage it is, and tells its answer; 20 to a call that its stage has not.
+/// Gives one call at whatever stage it is, and tells its answer; 20 to a call that its stage has not.
 #[tactic(auto, using(crate::proofs::Runs::run_more))]
 pub fn give<B: Bank, R: Precedence>(
     at: Installation<B, R>,
@@ -132,9 +132,9 @@ pub fn give<B: Bank, R: Precedence>(
     (next, answer)
 }
 
-// Begins, and gives every call of a list, one after another; each answer is written into its record.
+/// Begins, and gives every call of a list, one after another; each answer is written into its record.
 pub fn run<B: Bank, R: Precedence>(
-    heap: Global,
+    alloc: Global,
     bank: B,
     rule: R,
     calls: &mut [CallRecord],
@@ -146,7 +146,7 @@ pub fn run<B: Bank, R: Precedence>(
     ensures own { IfOk result (λ i. All OwnAnswer calls.new) }
     ensures back { IfErr result (λ b. (b.bank ≡ bank) × (b.rule ≡ rule) × (calls.new ≡ calls.old)) }
 {
-    let mut at = Installation::Naming(begin(heap, bank, rule)?);
+    let mut at = Installation::Naming(begin(alloc, bank, rule)?);
     for record in calls.iter_mut() {
         let (next, answer) = give(at, record.call);
         at = next;

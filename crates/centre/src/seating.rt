@@ -1,8 +1,8 @@
 ghost use Rattle.std.specs.Prelude.{◌≡◌, false, Ok};
 ghost use Rattle.calls.specs.declared.call.Call.TheVariants.{Seat, Open, Apply, Deliver};
-ghost use Rattle.meaning.specs.Installation.{seating, service};
-ghost use Rattle.meaning.specs.Questions.{belongs};
-ghost use Rattle.meaning.specs.Outcomes.{Performs};
+ghost use Rattle.rules.specs.Installation.{seating, service};
+ghost use Rattle.rules.specs.Questions.{belongs};
+ghost use Rattle.rules.specs.Outcomes.{Performs};
 ghost use Rattle.centre.specs.Holding.{installation};
 ghost use Rattle.centre.specs.Offices.{held};
 ghost use Rattle.centre.specs.Sayings.{said};
@@ -10,22 +10,22 @@ ghost use Rattle.centre.specs.Promises.{Kept, Does};
 
 use crate::office::Office;
 use crate::service::Service;
-use calls::call::Call;
-use faults::centre::CentreFault;
-use precedence::precedence::Precedence;
+use calls::Call;
+use edges::Edge;
+use precedence::Precedence;
+use rules::CentreFault;
 use std::marker::Model;
-use terms::edges::Edge;
-use vaults::bank::Bank;
+use vaults::Bank;
 
-// The second stage: edges are added without asking who wants them. It means all that the centre holds,
-// and calls alone have brought that about.
+/// The second stage: edges are added without asking who wants them. It means all that the centre holds,
+/// and calls alone have brought that about.
 #[derive(Drop)]
 pub struct Seating<B: Bank, R: Precedence> {
     pub(crate) office: Office<B, R>,
 }
 
 impl<B: Bank, R: Precedence> Model for Seating<B, R> {
-    ghost use Rattle.meaning.specs.Installation.{seating};
+    ghost use Rattle.rules.specs.Installation.{seating};
     ghost use Rattle.centre.specs.Holding.{Held};
     ghost use Rattle.centre.specs.Offices.{held};
     ghost use Rattle.centre.specs.Promises.{Brought};
@@ -38,35 +38,35 @@ impl<B: Bank, R: Precedence> Model for Seating<B, R> {
 }
 
 impl<B: Bank, R: Precedence> Seating<B, R> {
-    // What the centre can be asked; a question alters nothing.
+    /// What the centre can be asked; a question alters nothing.
     pub fn office(&self) -> &Office<B, R>
         ensures { held result.now ≡ self.now }
     {
         &self.office
     }
 
-    // Adds an edge without asking who wants it.
+    /// Adds an edge without asking who wants it.
     pub fn seat(&mut self, edge: Edge) -> Result<(), CentreFault>
         ensures { Does R.over seating self.old (Seat edge) (said result) self.new }
     {
         self.office.seat(edge)
     }
 
-    // Performs the first message that waits at a vault on its table, and leaves it waiting.
+    /// Performs the first message that waits at a vault on its table, and leaves it waiting.
     pub fn apply(&mut self, vault: usize) -> Result<(), CentreFault>
         ensures { Does R.over seating self.old (Apply vault) (said result) self.new }
     {
         self.office.apply(vault)
     }
 
-    // Performs the first message that waits at a vault on its table, and strikes it.
+    /// Performs the first message that waits at a vault on its table, and strikes it.
     pub fn deliver(&mut self, vault: usize) -> Result<(), CentreFault>
         ensures { Does R.over seating self.old (Deliver vault) (said result) self.new }
     {
         self.office.deliver(vault)
     }
 
-    // Opens the service.
+    /// Opens the service.
     #[tactic(auto, using(crate::proofs::Stages::open_performs))]
     pub fn open(self) -> Service<B, R>
         ensures performs { Performs (R.over self.rule) (installation seating self) Open (Ok 0) (installation service result) }
@@ -86,7 +86,7 @@ impl<B: Bank, R: Precedence> Seating<B, R> {
         Err(CentreFault::WrongStage)
     }
 
-    // What holds of every installation at this stage: the function stands for the theorem.
+    /// What holds of every installation at this stage: the function stands for the theorem.
     pub fn laws(&self)
         ensures { Kept (R.over self.now.rule) (installation seating self.now) }
     {

@@ -1,21 +1,20 @@
 ghost use Rattle.std.specs.Prelude.{◌≡◌, ◌<◌, ◌≤◌, length, nat_lt};
-ghost use Rattle.links.specs.Waiting.{first};
+ghost use Rattle.links.specs.Links.{first};
 ghost use Rattle.vaults.specs.Loads.{load_of};
 ghost use Rattle.vaults.specs.Sites.{site_at, alter, send_to, strike_at, put_into, drop_from};
-ghost use Rattle.stores.specs.Putting.{put_answer};
+ghost use Rattle.stores.specs.Stores.{put_answer};
 ghost use Rattle.centre.specs.Worked.{Works, AlteredBy, sent_to, fault_at, store_fault};
 
-use books::vault_set::VaultSet;
-use faults::bank::BankFault;
-use faults::centre::{CentreFault, VaultPlace};
+use edges::{Change, Edge};
+use policy::VaultSet;
+use refusals::BankFault;
+use rules::CentreFault;
 use std::marker::Model;
-use terms::edges::{Change, Edge};
-use vaults::bank::{Bank, Load};
 use vaults::inspection::inspect;
-use vaults::vault_table::VaultTable;
+use vaults::{Bank, Load, VaultTable};
 
-// The vaults that a centre works: all of its bank's, or none if the bank does not pass inspection. It
-// means the list of their sites.
+/// The vaults that a centre works: all of its bank's, or none if the bank does not pass inspection. It
+/// means the list of their sites.
 #[derive(Drop)]
 pub struct VaultRow<B: Bank> {
     bank: B,
@@ -48,11 +47,10 @@ fn size<B: Bank>(bank: &B) -> usize
 fn at_vault(vault: usize, fault: BankFault) -> CentreFault
     ensures { result ≡ fault_at vault fault }
 {
-    let place = VaultPlace { vault };
     match fault {
-        BankFault::Link(fault) => CentreFault::Link(place, fault),
-        BankFault::Store(fault) => CentreFault::Store(place, fault),
-        BankFault::NoVault | BankFault::Unfit => CentreFault::NoVault,
+        BankFault::Link(fault) => CentreFault::Link { vault, fault },
+        BankFault::Store(fault) => CentreFault::Store { vault, fault },
+        BankFault::NoVault | BankFault::Unfit => CentreFault::NoVault { vault },
     }
 }
 

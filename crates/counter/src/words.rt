@@ -1,7 +1,7 @@
 use std::{env, io};
 
-// What is printed: the answers, or the answers and behind them what each vault has; or, in their place, the
-// final policy as a picture, or the final state.
+/// What is printed: the answers, or the answers and behind them what each vault has; or, in their place, the
+/// final policy as a picture, or the final state.
 #[derive(Clone, Copy, PartialEq, Eq)]
 pub enum View {
     Answers,
@@ -10,7 +10,7 @@ pub enum View {
     State,
 }
 
-// What the program's words ask for.
+/// What the program's words ask for.
 #[derive(Clone, Copy)]
 pub struct Words {
     pub view: View,
@@ -25,7 +25,7 @@ enum Limit {
     Link,
 }
 
-// How the program is called.
+/// How the program is called.
 pub const USAGE: &str =
     "counter [tables | graph | state] [--store-limit S] [--link-limit L] < a-script";
 
@@ -80,7 +80,7 @@ impl Words {
         }
     }
 
-    // What the program's words ask for; nothing if one of them is not known, or a number is missing.
+    /// What the program's words ask for; nothing if one of them is not known, or a number is missing.
     pub fn read(rt: &HostRuntime) -> io::Result<Option<Words>> {
         let mut read = (Words::none(), None);
         for word in env::args(rt)?.skip(1) {

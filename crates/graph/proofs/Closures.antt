@@ -6,13 +6,13 @@ use Rattle.std.proofs.lemmas.List.FromFn.{length-range_with_len, get_or-range_wi
 use Rattle.std.proofs.lemmas.Nat.{le_or_l, or_lt, pow_below}
 use Rattle.std.proofs.lemmas.Bool.{false≢true, both_ways, not-true, not_from_false, true_from_ne_false, false_from_ne_true, and_parts, and_from, or_cases, or_left, or_right, eqb-true, eq-eqb}
 use Rattle.std.proofs.lemmas.Bool.Decides.{nat_tests, same_from_decides}
-use Rattle.terms.specs.Graph.{edge, is_edge, is_role, is_user}
-use Rattle.model.specs.EdgeSets.{Edges, has, all_edges, ◌∈◌}
-use Rattle.model.specs.BitRows.{bit, Row, has_role, role_word, is_beyond}
-use Rattle.model.proofs.Members.{edge_member}
-use Rattle.model.proofs.BitRows.{place_of, has_none, has_one, has_or, has_with, has_row}
-use Rattle.meaning.specs.Paths.{Reach, here, step, reaches}
-use Rattle.meaning.proofs.Paths.{reach_trans, paths_decided}
+use Rattle.edges.specs.Edges.{edge, is_edge, is_role, is_user}
+use Rattle.edge_sets.specs.EdgeSets.{Edges, has, all_edges, ◌∈◌}
+use Rattle.edge_sets.specs.BitRows.{bit, Row, has_role, role_word, is_beyond}
+use Rattle.edge_sets.proofs.Members.{edge_member}
+use Rattle.edge_sets.proofs.BitRows.{place_of, has_none, has_one, has_or, has_with, has_row}
+use Rattle.graph.specs.Paths.{Reach, here, step, reaches}
+use Rattle.graph.proofs.Reaching.{reach_trans, paths_decided}
 use Rattle.graph.specs.Searches.{FromRoles, Closure, ReachesRoles, edge_from}
 
 -- On the way there: the roles that were seen, and those of them whose edges were followed.

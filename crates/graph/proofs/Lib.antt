@@ -1,1 +1,4 @@
+pub mod Vertices
+pub mod Reaching
+pub mod Concerns
 pub mod Closures

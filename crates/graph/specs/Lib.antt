@@ -1,1 +1,2 @@
+pub mod Paths
 pub mod Searches

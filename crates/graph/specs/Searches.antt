@@ -1,10 +1,10 @@
 -- Which roles are reached, where a set of roles is one word.
 use Rattle.std.specs.Prelude.{◌≡◌, ℕ, Bool, true, ◌&&◌, ◌↔◌}
 use Rattle.std.specs.List.{list_any, range_with_len}
-use Rattle.terms.specs.Graph.{edge, is_role}
-use Rattle.model.specs.EdgeSets.{Edges, has}
-use Rattle.model.specs.BitRows.{has_role}
-use Rattle.meaning.specs.Paths.{Reach}
+use Rattle.edges.specs.Edges.{edge, is_role}
+use Rattle.edge_sets.specs.EdgeSets.{Edges, has}
+use Rattle.edge_sets.specs.BitRows.{has_role}
+use Rattle.graph.specs.Paths.{Reach}
 
 -- a role of w reaches x
 abbrev pub FromRoles : Edges → ℕ → ℕ → Type 0

@@ -1,22 +1,22 @@
 ghost use Rattle.std.specs.Prelude.{◌≡◌, true};
-ghost use Rattle.model.specs.EdgeSets.{Edges, all_edges, has};
-ghost use Rattle.model.specs.BitRows.{Row};
-ghost use Rattle.model.proofs.Members.{vault_edges};
+ghost use Rattle.edge_sets.specs.EdgeSets.{Edges, all_edges, has};
+ghost use Rattle.edge_sets.specs.BitRows.{Row};
+ghost use Rattle.edge_sets.proofs.Members.{vault_edges};
 ghost use Rattle.graph.specs.Searches.{ReachesRoles};
 
 use crate::search::{closure, first};
-use model::roles::Roles;
-use stores::store::Reader;
-use terms::edges::Edge;
+use edge_sets::Roles;
+use edges::Edge;
+use stores::Reader;
 
-// Anything that answers whether there is an edge. It means a set of edges.
+/// Anything that answers whether there is an edge. It means a set of edges.
 pub trait Graph {
     ghost edges: { Self → Edges };
 
     fn holds(&self, edge: Edge) -> bool
         ensures { result ≡ has (edges self.now) edge };
 
-    // The roles that a vertex has an edge to.
+    /// The roles that a vertex has an edge to.
     fn row(&self, from: u16) -> Roles
         ensures { Row (edges self.now) from result.word };
 
@@ -39,9 +39,9 @@ impl<R: Reader> Graph for R {
     }
 }
 
-// A graph that tells at once all roles that a vertex reaches.
+/// A graph that tells at once all roles that a vertex reaches.
 pub trait Paths: Graph {
-    // The roles that a vertex reaches, itself among them if it is a role.
+    /// The roles that a vertex reaches, itself among them if it is a role.
     fn reached(&self, from: u16) -> Roles
         ensures { ReachesRoles (Self.Graph.edges self.now) from result.word };
 }

@@ -1,15 +1,14 @@
 ghost use Rattle.std.specs.Prelude.{◌≡◌, ℕ, true};
-ghost use Rattle.terms.specs.Graph.{is_role};
-ghost use Rattle.model.specs.BitRows.{has_role};
-ghost use Rattle.meaning.specs.Paths.{reaches};
+ghost use Rattle.edges.specs.Edges.{is_role};
+ghost use Rattle.edge_sets.specs.BitRows.{has_role};
+ghost use Rattle.graph.specs.Paths.{reaches};
 ghost use Rattle.graph.specs.Searches.{Closure, Begins, ReachesRoles, edge_from};
 
 use crate::graph::{Graph, Paths};
-use model::roles::Roles;
-use terms::edges::Edge;
-use terms::kinds::Kind;
+use edge_sets::Roles;
+use edges::{Edge, Kind};
 
-// The roles that some roles reach. The edges of each role are followed once.
+/// The roles that some roles reach. The edges of each role are followed once.
 pub fn closure<G: Graph>(graph: &G, roles: Roles) -> Roles
     ensures { Closure (G.edges graph.now) roles.word result.word }
 {
@@ -29,7 +28,7 @@ fn have_edge<G: Graph>(graph: &G, roles: Roles, to: u16) -> bool
     (64..128u16).any(|role| roles.has(role) && graph.holds(Edge { from: role, to }))
 }
 
-// The roles to begin with: a role itself, or those that any other vertex has an edge to.
+/// The roles to begin with: a role itself, or those that any other vertex has an edge to.
 pub fn first<G: Graph>(graph: &G, from: u16) -> Roles
     ensures { Begins (G.edges graph.now) from result.word }
 {
@@ -42,7 +41,8 @@ pub fn first<G: Graph>(graph: &G, from: u16) -> Roles
 
 // Whether a vertex is reached, where the roles are those that `from` reaches.
 fn is_reached<G: Graph>(graph: &G, from: u16, roles: Roles, to: u16) -> bool
-    ensures { ReachesRoles (G.edges graph.now) from roles.word → result ≡ reaches (G.edges graph.now) from to }
+    ensures { ReachesRoles (G.edges graph.now) from roles.word
+        → result ≡ reaches (G.edges graph.now) from to }
 {
     if from == to {
         return true;
@@ -56,17 +56,18 @@ fn is_reached<G: Graph>(graph: &G, from: u16, roles: Roles, to: u16) -> bool
     have_edge(graph, roles, to)
 }
 
-// Whether a vertex reaches another. Every number is answered: one that is no vertex reaches itself
-// alone.
+/// Whether a vertex reaches another. Every number is answered: one that is no vertex reaches itself
+/// alone.
 pub fn reaches<G: Paths>(graph: &G, from: u16, to: u16) -> bool
     ensures { result ≡ reaches (G.Graph.edges graph.now) from to }
 {
     is_reached(graph, from, graph.reached(from), to)
 }
 
-// The roles that reach a vertex.
+/// The roles that reach a vertex.
 pub fn leading<G: Paths>(graph: &G, to: u16) -> Roles
-    ensures { (x : ℕ) → is_role x ≡ true → has_role result.word x ≡ reaches (G.Graph.edges graph.now) x to }
+    ensures { (x : ℕ) → is_role x ≡ true
+        → has_role result.word x ≡ reaches (G.Graph.edges graph.now) x to }
 {
     let mut roles = Roles::none();
     for role in 64..128u16 {

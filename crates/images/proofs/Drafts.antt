@@ -3,14 +3,14 @@ use Rattle.std.proofs.Common.{◌≡◌, ℕ, zero, suc, ◌+◌, ◌*◌, ◌<�
 use Rattle.std.specs.Prelude.{Option, Some, None, IfSome}
 use Rattle.std.proofs.Math.Seq.{take-append_seam, drop-append-add}
 use Rattle.std.proofs.lemmas.List.{take-append-drop, length-take-le, drop-drop}
-use Rattle.model.specs.EdgeSets.{Edges, Table, all_vault, has}
-use Rattle.model.specs.Cells.{cell, edge_at}
-use Rattle.formats.specs.declared.runs.Run.{Run}
-use Rattle.formats.specs.Runs.{run, along, edges_of, joined, runs}
-use Rattle.formats.specs.Images.{word, bytes, image}
-use Rattle.formats.proofs.Climbs.{climbs, climbs_set}
-use Rattle.formats.proofs.Fits.{runs_climb, runs_along}
-use Rattle.formats.proofs.Rounds.{length_bytes}
+use Rattle.edge_sets.specs.EdgeSets.{Edges, Table, all_vault, has}
+use Rattle.edge_sets.specs.Cells.{cell, edge_at}
+use Rattle.image_format.specs.declared.runs.Run.{Run}
+use Rattle.image_format.specs.Runs.{run, along, edges_of, joined, runs}
+use Rattle.image_format.specs.Images.{word, bytes, image}
+use Rattle.image_format.proofs.Climbs.{climbs, climbs_set}
+use Rattle.image_format.proofs.Fits.{runs_climb, runs_along}
+use Rattle.image_format.proofs.Rounds.{length_bytes}
 use Rattle.images.specs.Writing.{with_run, Meets, lengthened, Closed, Written}
 use Rattle.images.proofs.Since.{since, since_all, since_none, since_climbs, since_vault, since_has, since_lacks, along_push}
 

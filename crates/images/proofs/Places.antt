@@ -5,16 +5,16 @@ use Rattle.std.proofs.Math.ListN.{drop_of_length-le}
 use Rattle.std.proofs.lemmas.Bool.{and_parts, or_from, eqb-true}
 use Rattle.std.proofs.lemmas.Bool.Decides.{nat_tests}
 use Rattle.std.proofs.lemmas.List.{drop_more}
-use Rattle.terms.specs.declared.edges.Edge.{Edge}
-use Rattle.terms.specs.Graph.{edge, is_role}
-use Rattle.model.specs.EdgeSets.{has}
-use Rattle.model.specs.BitRows.{Row, has_role, role_word}
-use Rattle.model.specs.Cells.{edge_at}
-use Rattle.model.proofs.BitRows.{at_place, has_none, has_or, has_row, has_with}
-use Rattle.formats.specs.declared.runs.Run.{Run}
-use Rattle.formats.specs.Runs.{run, edges_of, edges_in, end, spans, next, all_fit}
-use Rattle.formats.specs.Images.{runs_in, taken, held, counted, accepted}
-use Rattle.formats.proofs.Fits.{all_parts, front_fits, front_all}
+use Rattle.edges.specs.declared.edges.Edge.{Edge}
+use Rattle.edges.specs.Edges.{edge, is_role}
+use Rattle.edge_sets.specs.EdgeSets.{has}
+use Rattle.edge_sets.specs.BitRows.{Row, has_role, role_word}
+use Rattle.edge_sets.specs.Cells.{edge_at}
+use Rattle.edge_sets.proofs.BitRows.{at_place, has_none, has_or, has_row, has_with}
+use Rattle.image_format.specs.declared.runs.Run.{Run}
+use Rattle.image_format.specs.Runs.{run, edges_of, edges_in, end, spans, next, all_fit}
+use Rattle.image_format.specs.Images.{runs_in, taken, image_edges, counted, accepted}
+use Rattle.image_format.proofs.Fits.{all_parts, front_fits, front_all}
 use Rattle.images.specs.Reading.{no_run, Beyond, role_from, RowOf}
 use Rattle.images.proofs.Steps.{has_along, has_both, all_read}
 
@@ -111,17 +111,17 @@ taken_fit : (bs : List ℕ) → all_fit 0 512 (taken bs) ≡ true
 taken_fit bs = front_fits 0 512 (runs_in (drop 2 bs))
 
 module _ (bs : List ℕ) (c i : ℕ) (b : Beyond c (taken bs) i) where
-  from_here : has (edges_in (drop i (taken bs))) (edge_at c) ≡ has (held bs) (edge_at c)
+  from_here : has (edges_in (drop i (taken bs))) (edge_at c) ≡ has (image_edges bs) (edge_at c)
   from_here = has_from 0 512 c (taken bs) i (taken_fit bs) b.within b.front
 
-  pub spanned_here : i < length (taken bs) → has (held bs) (edge_at c) ≡ spans (get_or (taken bs) i no_run) c
+  pub spanned_here : i < length (taken bs) → has (image_edges bs) (edge_at c) ≡ spans (get_or (taken bs) i no_run) c
   spanned_here l =
       let r = get_or (taken bs) i no_run in
       let none = none_behind 0 512 c (taken bs) i (taken_fit bs) l (omega (arith, b.back l)) in
       sym from_here ∙ has_parts (taken bs) i (edge_at c) l ∙ ap (λ (v : Bool). has (edges_of r) (edge_at c) || v) none ∙ or-false (has (edges_of r) (edge_at c))
       ∙ has_along r.first r.count c
 
-  pub spanned_nowhere : length (taken bs) ≤ i → has (held bs) (edge_at c) ≡ false
+  pub spanned_nowhere : length (taken bs) ≤ i → has (image_edges bs) (edge_at c) ≡ false
   spanned_nowhere l = sym from_here ∙ ap (λ (rs : List Run). has (edges_in rs) (edge_at c)) (drop_of_length-le (taken bs) l)
 
 -- The roles of a vertex in one run
@@ -179,7 +179,7 @@ module _ (bs : List ℕ) (from : ℕ) where
     met = λ x r.
         let l : 64 ≤ x = grind (arith, nat_tests) in
         ap (λ (v : Bool). v || has (edges_in (drop i (taken bs))) (edge from x)) (has_none x)
-        ∙ subst (λ (e : Edge). has (edges_in (drop i (taken bs))) e ≡ has (held bs) e) (cell_to from x r)
+        ∙ subst (λ (e : Edge). has (edges_in (drop i (taken bs))) e ≡ has (image_edges bs) e) (cell_to from x r)
         (has_from 0 512 (from * 256 + x) (taken bs) i (taken_fit bs) b.within (λ j q. omega (arith, b.front j q)));
   }
 
@@ -194,7 +194,7 @@ module _ (bs : List ℕ) (from : ℕ) where
           ∙ or_assoc (has_role w x) (has here e) (has rest e) ∙ ap (λ (b : Bool). has_role w x || b) (sym (has_parts (taken bs) i e l)) ∙ g.met x q;
     }
 
-    pub gathered_stops : from * 256 + 128 ≤ (get_or (taken bs) i no_run).first → Row (held bs) from w
+    pub gathered_stops : from * 256 + 128 ≤ (get_or (taken bs) i no_run).first → Row (image_edges bs) from w
     gathered_stops b k m =
         let q : is_role (64 + k) ≡ true = grind (arith, nat_tests) in
         let r = get_or (taken bs) i no_run in

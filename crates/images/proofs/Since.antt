@@ -2,13 +2,13 @@
 use Rattle.std.proofs.Common.{◌≡◌, ℕ, zero, suc, ◌+◌, ◌<◌, ◌≤◌, Bool, true, false, cond, ◌||◌, ltb, [], ◌∷◌, ◌++◌, sym, refl, ap, ◌∙◌, ⊎_elim, arith}
 use Rattle.std.proofs.lemmas.Bool.{cond-true, cond-false, cases_order, cases_lt, and_parts, and_from, le-leb, lt-ltb, le-ltb, or_from, or_parts, both_ways, false≢true}
 use Rattle.std.proofs.lemmas.Bool.Decides.{nat_tests}
-use Rattle.terms.specs.declared.edges.Edge.{Edge}
-use Rattle.terms.specs.Graph.{vault_edge, same}
-use Rattle.model.specs.EdgeSets.{Edges, all_vault, has}
-use Rattle.model.specs.Cells.{cell, edge_at}
-use Rattle.model.proofs.Cells.{cell_within, cell_edge}
-use Rattle.formats.specs.Runs.{along}
-use Rattle.formats.proofs.Climbs.{climbs, climbs_parts}
+use Rattle.edges.specs.declared.edges.Edge.{Edge}
+use Rattle.edges.specs.Edges.{vault_edge, same}
+use Rattle.edge_sets.specs.EdgeSets.{Edges, all_vault, has}
+use Rattle.edge_sets.specs.Cells.{cell, edge_at}
+use Rattle.edge_sets.proofs.Cells.{cell_within, cell_edge}
+use Rattle.image_format.specs.Runs.{along}
+use Rattle.image_format.proofs.Climbs.{climbs, climbs_parts}
 
 abbrev pub since : ℕ → Edges → Edges
 since c [] = []

@@ -8,18 +8,18 @@ use Rattle.std.specs.List.{list_all, range_with_len, sum_by}
 use Rattle.std.proofs.lemmas.List.Sums.{sum_by-cons}
 use Rattle.std.proofs.lemmas.Bool.{cond-true, cases_eq, cases_Bool, eq-eqb, ne_eqb, eqb-true, and_from, and_right, or_left, both_ways}
 use Rattle.std.proofs.lemmas.Bool.Decides.{nat_tests}
-use Rattle.terms.specs.declared.edges.Edge.{Edge}
-use Rattle.terms.specs.Graph.{vault_edge, same}
-use Rattle.model.specs.EdgeSets.{Edges, all_vault, has}
-use Rattle.model.specs.Cells.{cell, edge_at}
-use Rattle.model.proofs.Cells.{cell_within, cell_edge}
-use Rattle.model.proofs.Members.{vault_member}
-use Rattle.formats.specs.declared.runs.Run.{Run}
-use Rattle.formats.specs.Runs.{run, along, edges_of, edges_in, spans, next, fits, all_fit, front}
-use Rattle.formats.specs.Images.{word_at, run_at, runs_in, taken, held, counted, accepted}
-use Rattle.formats.proofs.Climbs.{cells_same, cells_differ, length_along}
-use Rattle.formats.proofs.Fits.{all_parts, front_fits, front_all, front_long}
-use Rattle.formats.proofs.Rounds.{length_runs_in, held_table}
+use Rattle.edges.specs.declared.edges.Edge.{Edge}
+use Rattle.edges.specs.Edges.{vault_edge, same}
+use Rattle.edge_sets.specs.EdgeSets.{Edges, all_vault, has}
+use Rattle.edge_sets.specs.Cells.{cell, edge_at}
+use Rattle.edge_sets.proofs.Cells.{cell_within, cell_edge}
+use Rattle.edge_sets.proofs.Members.{vault_member}
+use Rattle.image_format.specs.declared.runs.Run.{Run}
+use Rattle.image_format.specs.Runs.{run, along, edges_of, edges_in, spans, next, fits, all_fit, front}
+use Rattle.image_format.specs.Images.{word_at, run_at, runs_in, taken, image_edges, counted, accepted}
+use Rattle.image_format.proofs.Climbs.{cells_same, cells_differ, length_along}
+use Rattle.image_format.proofs.Fits.{all_parts, front_fits, front_all, front_long}
+use Rattle.image_format.proofs.Rounds.{length_runs_in, held_table}
 use Rattle.images.specs.declared.runs.Runs.{Runs}
 use Rattle.images.specs.Reading.{ahead}
 
@@ -92,7 +92,7 @@ length_edges (r ∷ rs) =
     length-append (edges_of r) (edges_in rs) ∙ ap (λ (n : ℕ). n + length (edges_in rs)) (length_along r.first r.count)
     ∙ ap (λ (n : ℕ). r.count + n) (length_edges rs) ∙ sym (sum_by-cons (λ r. r.count) r rs)
 
-pub cells_held : (bs : List ℕ) → length (held bs) ≡ sum_by (λ r. r.count) (taken bs)
+pub cells_held : (bs : List ℕ) → length (image_edges bs) ≡ sum_by (λ r. r.count) (taken bs)
 cells_held bs = length_edges (taken bs)
 
 pub cells_taken : (bs : List ℕ) → sum_by (λ r. r.count) (taken bs) ≤ 512
@@ -108,12 +108,12 @@ few_front n m rs = few_fit n m (front n m rs) (front_fits n m rs)
 
 -- Sets that bytes hold
 
-pub held_at : (bs : List ℕ) (e : Edge) (c : ℕ) → c ≡ cell e → vault_edge e ≡ true → has (held bs) (edge_at c) ≡ has (held bs) e
-held_at bs e c is v = ap (has (held bs)) (ap edge_at is ∙ cell_edge e (cell_within e v).1)
+pub held_at : (bs : List ℕ) (e : Edge) (c : ℕ) → c ≡ cell e → vault_edge e ≡ true → has (image_edges bs) (edge_at c) ≡ has (image_edges bs) e
+held_at bs e c is v = ap (has (image_edges bs)) (ap edge_at is ∙ cell_edge e (cell_within e v).1)
 
-pub held_no_other : (bs : List ℕ) (e : Edge) → vault_edge e ≡ false → has (held bs) e ≡ false
+pub held_no_other : (bs : List ℕ) (e : Edge) → vault_edge e ≡ false → has (image_edges bs) e ≡ false
 held_no_other bs e n =
-    ⊎_elim (λ (h : has (held bs) e ≡ true). absurd (both_ways (vault_edge e) n (vault_member e (held bs) (held_table bs).vault h))) (λ h. h) (cases_Bool (has (held bs) e))
+    ⊎_elim (λ (h : has (image_edges bs) e ≡ true). absurd (both_ways (vault_edge e) n (vault_member e (image_edges bs) (held_table bs).vault h))) (λ h. h) (cases_Bool (has (image_edges bs) e))
 
 -- bytes are an image just when they end with the last of the runs that are taken
 pub all_read : (bs : List ℕ) → counted bs ≡ true → accepted bs ≡ eqb (length bs) (2 + 4 * length (taken bs))

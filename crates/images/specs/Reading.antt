@@ -1,9 +1,9 @@
 -- Reading runs: one after another, or from a place that is found by halving.
 use Rattle.std.specs.Prelude.{◌≡◌, ℕ, suc, ◌-◌, ◌*◌, min, max, ◌<◌, ◌≤◌, List, length, slice_index_or}
-use Rattle.model.specs.BitRows.{Row}
-use Rattle.formats.specs.declared.runs.Run.{Run}
-use Rattle.formats.specs.Runs.{run, edges_of, end, front}
-use Rattle.formats.specs.Images.{runs_in}
+use Rattle.edge_sets.specs.BitRows.{Row}
+use Rattle.image_format.specs.declared.runs.Run.{Run}
+use Rattle.image_format.specs.Runs.{run, edges_of, end, front}
+use Rattle.image_format.specs.Images.{runs_in}
 use Rattle.images.specs.declared.runs.Runs.{Runs}
 
 -- the runs that are still to come, the longest front that fits

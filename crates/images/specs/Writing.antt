@@ -1,9 +1,9 @@
 -- Writing runs one after another.
 use Rattle.std.specs.Prelude.{◌≡◌, ℕ, ◌+◌, ◌*◌, ◌<◌, List, [], ◌∷◌, ◌++◌, length, take, drop, Option, Some, None, ⊤}
-use Rattle.model.specs.EdgeSets.{Edges}
-use Rattle.formats.specs.declared.runs.Run.{Run}
-use Rattle.formats.specs.Runs.{run}
-use Rattle.formats.specs.Images.{bytes, image}
+use Rattle.edge_sets.specs.EdgeSets.{Edges}
+use Rattle.image_format.specs.declared.runs.Run.{Run}
+use Rattle.image_format.specs.Runs.{run}
+use Rattle.image_format.specs.Images.{bytes, image}
 
 -- bytes with a run over the four from i on
 abbrev pub with_run : List ℕ → ℕ → Run → List ℕ

@@ -1,8 +1,8 @@
 ghost use Rattle.std.specs.Prelude.{◌≡◌, ◌^◌, ◌<◌};
-ghost use Rattle.terms.specs.Graph.{vault_edge};
-ghost use Rattle.model.specs.Cells as cells;
+ghost use Rattle.edges.specs.Edges.{vault_edge};
+ghost use Rattle.edge_sets.specs.Cells as cells;
 
-use terms::edges::Edge;
+use edges::Edge;
 
 // The edge of a cell. A function and no From, as a bare number does not say that it is a cell.
 pub(crate) fn edge_at(cell: u32) -> Edge

@@ -1,22 +1,22 @@
-ghost use Rattle.std.specs.Prelude.{◌≡◌, ◌<◌, true, false, length, MatchResult, slice_index_or};
-ghost use Rattle.model.specs.EdgeSets.{has};
-ghost use Rattle.model.specs.BitRows.{Row};
-ghost use Rattle.model.specs.Cells as cells;
-ghost use Rattle.faults.specs.declared.image.ImageFault.TheVariants.{NoImage};
-ghost use Rattle.formats.specs.Images.{taken, held, counted, accepted, Judged, IsImage, IsNoImage};
-ghost use Rattle.formats.proofs.Rounds.{held_table};
+ghost use Rattle.std.specs.Prelude.{◌≡◌, ◌<◌, true, false, length, OnOk, OnErr, IfOk, IfErr, slice_index_or};
+ghost use Rattle.edge_sets.specs.EdgeSets.{has};
+ghost use Rattle.edge_sets.specs.BitRows.{Row};
+ghost use Rattle.edge_sets.specs.Cells as cells;
+ghost use Rattle.images.specs.declared.fault.ImageFault.TheVariants.{NoImage};
+ghost use Rattle.image_format.specs.Images.{taken, image_edges, counted, accepted, Judged, IsImage, IsNoImage};
+ghost use Rattle.image_format.proofs.Rounds.{held_table};
 ghost use Rattle.images.specs.Reading.{no_run, Beyond, RowOf, role_from};
 
+use crate::fault::ImageFault;
 use crate::runs::Runs;
-use faults::image::ImageFault;
-use formats::runs::Run;
-use model::cell::cell_of;
-use model::roles::Roles;
-use stores::store::Reader;
-use terms::edges::Edge;
+use edge_sets::Roles;
+use edge_sets::cell::cell_of;
+use edges::Edge;
+use image_format::Run;
+use stores::Reader;
 
-// A table that is read from the bytes of an image. That they are one was asked when it was opened,
-// and its runs are not tested again.
+/// A table that is read from the bytes of an image. That they are one was asked when it was opened,
+/// and its runs are not tested again.
 #[derive(Drop)]
 pub struct Image<'a> {
     pub(crate) bytes: &'a [u8],
@@ -61,10 +61,13 @@ fn row_of(run: Run, from: u16) -> Roles
 }
 
 impl<'a> Image<'a> {
-    // The table whose image the bytes are, to the last one. Refused if they are the image of no set
-    // of at most 512 vault edges.
+    /// The table whose image the bytes are, to the last one. Refused if they are the image of no set
+    /// of at most 512 vault edges.
     pub fn open(bytes: &'a [u8]) -> Result<Image<'a>, ImageFault>
-        ensures { MatchResult result (λ i. (i.bytes.now ≡ bytes.now) × (accepted bytes.now ≡ true) × IsImage bytes.now) (λ f. (f ≡ NoImage) × (accepted bytes.now ≡ false) × IsNoImage bytes.now) }
+        ensures opened { OnOk result ((accepted bytes.now ≡ true) × IsImage bytes.now) }
+        ensures bytes { IfOk result (λ i. i.bytes.now ≡ bytes.now) }
+        ensures refused { OnErr result ((accepted bytes.now ≡ false) × IsNoImage bytes.now) }
+        ensures fault { IfErr result (λ f. f ≡ NoImage) }
     {
         if is_image(bytes) {
             Ok(Image { bytes })
@@ -116,7 +119,7 @@ impl<'a> Image<'a> {
     // Whether one of the runs spans a cell.
     #[tactic(auto, using(crate::proofs::Places::spanned_here, crate::proofs::Places::spanned_nowhere))]
     fn holds_cell(&self, cell: u32) -> bool
-        ensures { result ≡ has (held self.now.bytes.now) (cells.edge_at cell) }
+        ensures { result ≡ has (image_edges self.now.bytes.now) (cells.edge_at cell) }
     {
         let at = self.seek(cell);
         at < self.runs() && self.run(at).spans(cell)
@@ -125,7 +128,7 @@ impl<'a> Image<'a> {
     // The roles that a vertex has an edge to: those of the runs from its first role on.
     #[tactic(auto, using(crate::proofs::Places::gathered_begins, crate::proofs::Places::gathered_more, crate::proofs::Places::gathered_stops))]
     fn roles_of(&self, from: u16) -> Roles
-        ensures { Row (held self.now.bytes.now) from result.word }
+        ensures { Row (image_edges self.now.bytes.now) from result.word }
     {
         let base = u32::from(from) * 256;
         let mut row = Roles::none();
@@ -141,7 +144,7 @@ impl<'a> Image<'a> {
 }
 
 impl<'a> Reader for Image<'a> {
-    ghost edges = { λ i. held i.bytes.now };
+    ghost edges = { λ i. image_edges i.bytes.now };
 
     ghost table = { λ i. held_table i.bytes.now };
 

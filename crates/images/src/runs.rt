@@ -1,13 +1,13 @@
 ghost use Rattle.std.specs.Prelude.{◌≡◌, ◌≤◌, length};
 ghost use Rattle.std.specs.Iterator.{YieldsFirst, item_count};
 ghost use Rattle.std.specs.Iterator.Runs.{YieldsInOrder};
-ghost use Rattle.model.specs.EdgeSets.{all_vault};
-ghost use Rattle.formats.specs.Runs.{edges_of, fits};
-ghost use Rattle.formats.specs.Images.{taken};
+ghost use Rattle.edge_sets.specs.EdgeSets.{all_vault};
+ghost use Rattle.image_format.specs.Runs.{edges_of, fits};
+ghost use Rattle.image_format.specs.Images.{taken};
 ghost use Rattle.images.specs.Reading.{ahead};
 
 use crate::cells::is_vault_cell;
-use formats::runs::Run;
+use image_format::Run;
 
 // The runs in the bytes of an image, one after another, up to the first that does not fit: the
 // bytes that are still to be read, the least cell at which the next run may begin, and how many

@@ -1,12 +1,12 @@
-ghost use Rattle.std.specs.Prelude.{◌≡◌, ℕ, ◌+◌, ◌*◌, ◌<◌, ◌≤◌, ◌++◌, None, length, drop, IfSome, MatchResult};
-ghost use Rattle.faults.specs.declared.image.ImageFault.TheVariants.{NoRoom};
-ghost use Rattle.formats.specs.Images.{word};
+ghost use Rattle.std.specs.Prelude.{◌≡◌, ℕ, ◌+◌, ◌*◌, ◌<◌, ◌≤◌, ◌++◌, None, length, drop, IfSome, OnOk, OnErr, IfOk, IfErr};
+ghost use Rattle.images.specs.declared.fault.WriteFault.TheVariants.{NoRoom};
+ghost use Rattle.image_format.specs.Images.{word};
 ghost use Rattle.images.specs.Writing.{lengthened, Meets, Closed, Written};
 
 use crate::cells::edge_at;
-use faults::image::ImageFault;
-use formats::runs::Run;
-use stores::store::Reader;
+use crate::fault::WriteFault;
+use image_format::Run;
+use stores::Reader;
 
 // The bytes of the longest image, that of 512 runs.
 const LONGEST: usize = 2050;
@@ -51,7 +51,8 @@ impl Draft<'_> {
         ensures same_reference { self.new.out.ghost_name ≡ self.old.out.ghost_name }
         ensures same_length { length self.new.out.now ≡ length self.old.out.now }
         ensures none { self.new.pending ≡ None }
-        ensures closed { Closed self.old.pending self.old.runs self.old.out.now self.new.runs self.new.out.now }
+        ensures closed { Closed self.old.pending self.old.runs self.old.out.now
+            self.new.runs self.new.out.now }
     {
         if let Some(run) = self.pending.take() {
             let place = 2 + 4 * usize::from(self.runs);
@@ -93,13 +94,17 @@ fn write_image<R: Reader>(table: &R, out: &mut [u8]) -> usize
     draft.finish()
 }
 
-// Writes the image of a table at the start of `out` and tells how long it is; no other byte is
-// altered. Refused unless there is room for the longest image.
-pub fn write<R: Reader>(table: &R, out: &mut [u8]) -> Result<usize, ImageFault>
-    ensures { MatchResult result (λ n. (2050 ≤ length out.old) × Written (R.edges table.now) out.old out.new n) (λ f. (f ≡ NoRoom) × (length out.old < 2050) × (out.new ≡ out.old)) }
+/// Writes the image of a table at the start of `out` and tells how long it is; no other byte is
+/// altered. Refused unless there is room for the longest image.
+pub fn write<R: Reader>(table: &R, out: &mut [u8]) -> Result<usize, WriteFault>
+    ensures room { OnOk result (2050 ≤ length out.old) }
+    ensures written { IfOk result (λ n. Written (R.edges table.now) out.old out.new n) }
+    ensures short { OnErr result (length out.old < 2050) }
+    ensures fault { IfErr result (λ f. f ≡ NoRoom) }
+    ensures same { OnErr result (out.new ≡ out.old) }
 {
     if out.len() < LONGEST {
-        return Err(ImageFault::NoRoom);
+        return Err(WriteFault::NoRoom);
     }
     Ok(write_image(table, out))
 }

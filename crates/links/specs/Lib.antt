@@ -1,5 +1,1 @@
-pub mod Waiting
-pub mod Places
-pub mod Queues
-pub mod Held
-pub mod Lengths
+pub mod Links

@@ -1,6 +1,7 @@
+//! What a link is: the messages that wait for a vault, with a limit. A link of any make is a `Link`, and a
+//! `NewLink` where it can be made; the makes are in `queues`. Tests: `layer_tests::links_tests`.
 #![tactic(auto)]
 
-mod cycle;
 pub mod link;
-pub mod memory;
-pub mod queue;
+
+pub use link::{Link, NewLink};

@@ -1,18 +1,18 @@
-ghost use Rattle.std.specs.Prelude.{◌≡◌, ◌<◌, ◌≤◌, true, MatchResult, vec_len, vec_capacity};
+ghost use Rattle.std.specs.Prelude.{◌≡◌, ◌<◌, ◌≤◌, true, vec_len, vec_capacity};
 ghost use Rattle.std.proofs.Common.{sym};
-ghost use Rattle.terms.specs.Graph.{vault_edge};
-ghost use Rattle.model.specs.EdgeSets.{Found, Absent, all_vault, ascends, insert, delete};
-ghost use Rattle.model.proofs.Tables.{table_of, few_of};
+ghost use Rattle.edges.specs.Edges.{vault_edge};
+ghost use Rattle.edge_sets.specs.EdgeSets.{Found, Absent, all_vault, ascends, insert, delete};
+ghost use Rattle.edge_sets.proofs.Tables.{table_of, few_of};
 
-use faults::store::StoreFault;
-use model::places::{find, row};
-use model::roles::Roles;
+use edge_sets::{AscendingEdges, Roles};
+use edges::Edge;
+use refusals::StoreFault;
 use std::alloc::{AllocError, Global};
-use stores::store::{LIMITS, Made, Reader, Store};
-use terms::edges::Edge;
+use stores::store::LIMITS;
+use stores::{NewStore, Reader, Store};
 
-// A store that keeps a list of edges, ascending by from, then by to. It is no tree or map, since
-// these ask for memory with each edge; its room is reserved when it is made.
+/// A store that keeps a list of edges, ascending by from, then by to. It is no tree or map, since
+/// these ask for memory with each edge; its room is reserved when it is made.
 #[derive(Drop)]
 pub struct Pairs {
     pairs: Vec<Edge>,
@@ -27,16 +27,16 @@ pub struct Pairs {
 impl Pairs {
     ghost use Rattle.pairs.specs.Held.{pairs_edges};
 
-    // Ok with the place of an edge, or Err with the place where it would go.
-    fn seek(&self, edge: Edge) -> Result<usize, usize>
-        ensures { MatchResult result (λ i. Found edge (pairs_edges self.now) i) (λ i. Absent edge (pairs_edges self.now) i) }
+    // The edges, as an ascending list.
+    fn list(&self) -> AscendingEdges<'_>
+        ensures { result.edges.now ≡ pairs_edges self.now }
     {
-        find(&self.pairs, edge)
+        AscendingEdges { edges: &self.pairs }
     }
 
     // Puts an edge that is absent into its place. That it is a vault edge is known at the one call of
     // this; a type for such edges would carry it over one line.
-    #[tactic(auto, using(model::proofs::Steps::entered, model::proofs::Steps::entered_ascends, model::proofs::Steps::entered_vault))]
+    #[tactic(auto, using(edge_sets::proofs::Steps::entered, edge_sets::proofs::Steps::entered_ascends, edge_sets::proofs::Steps::entered_vault))]
     fn enter(&mut self, at: usize, edge: Edge)
         requires vault { vault_edge edge ≡ true }
         requires absent { Absent edge (pairs_edges self.old) at }
@@ -48,7 +48,7 @@ impl Pairs {
     }
 
     // Takes the edge out that stands at a place.
-    #[tactic(auto, using(model::proofs::Steps::struck, model::proofs::Steps::struck_ascends, model::proofs::Steps::struck_vault))]
+    #[tactic(auto, using(edge_sets::proofs::Steps::struck, edge_sets::proofs::Steps::struck_ascends, edge_sets::proofs::Steps::struck_vault))]
     fn strike_out(&mut self, at: usize, edge: Edge)
         requires { Found edge (pairs_edges self.old) at }
         ensures edges { pairs_edges self.new ≡ delete edge (pairs_edges self.old) }
@@ -66,7 +66,7 @@ impl Reader for Pairs {
     ghost table = { λ p. table_of (pairs_edges p) (vec_len p.pairs) p.limit p.sorted p.vault (sym p.pairs.ok.0) p.few p.small };
 
     fn holds(&self, edge: Edge) -> bool {
-        self.seek(edge).is_ok()
+        self.list().find(edge).is_ok()
     }
 
     fn count(&self) -> usize {
@@ -74,7 +74,7 @@ impl Reader for Pairs {
     }
 
     fn row(&self, from: u16) -> Roles {
-        row(&self.pairs, from)
+        self.list().row(from)
     }
 }
 
@@ -89,7 +89,7 @@ impl Store for Pairs {
         if !edge.is_vault_edge() {
             return Err(StoreFault::NoVaultEdge);
         }
-        match self.seek(edge) {
+        match self.list().find(edge) {
             Ok(_) => Ok(()),
             Err(_) if self.pairs.len() == self.limit => Err(StoreFault::Full),
             Err(at) => {
@@ -100,7 +100,7 @@ impl Store for Pairs {
     }
 
     fn drop(&mut self, edge: Edge) {
-        if let Ok(at) = self.seek(edge) {
+        if let Ok(at) = self.list().find(edge) {
             self.strike_out(at, edge);
         }
     }
@@ -110,10 +110,10 @@ impl Store for Pairs {
     }
 }
 
-impl Made for Pairs {
-    fn new(heap: Global, limit: usize) -> Result<Pairs, AllocError> {
+impl NewStore for Pairs {
+    fn new(alloc: Global, limit: usize) -> Result<Pairs, AllocError> {
         let limit = LIMITS.allow(limit);
-        let pairs = Vec::with_capacity(heap, limit)?;
+        let pairs = Vec::with_capacity(alloc, limit)?;
         Ok(Pairs { pairs, limit })
     }
 }

@@ -1,1 +1,3 @@
-mod Depths
+pub mod Ordering
+pub mod Covering
+pub mod Authorisation

@@ -1,1 +1,2 @@
-pub mod Stronger
+pub mod Precedence
+pub mod Authorisation

@@ -3,15 +3,15 @@ use Rattle.std.proofs.Common.{◌≡◌, ℕ, zero, suc, ◌+◌, ◌*◌, ◌/�
 use native.Mathlib.Nat.{zero-div}
 use Rattle.std.proofs.lemmas.Bool.{cases_Bool, both_ways}
 use Rattle.std.proofs.lemmas.Bool.Decides.{nat_tests}
-use Rattle.terms.specs.declared.edges.Edge.{Edge}
-use Rattle.terms.specs.Graph.{edge, vault_edge}
-use Rattle.model.specs.EdgeSets.{Edges, has, insert, delete, Ascending, ◌∈◌, ◌∉◌, all_vault}
-use Rattle.model.specs.BitRows.{bit, Row}
-use Rattle.model.proofs.BitRows.{bit_none}
-use Rattle.model.specs.Cells.{cell, listed}
-use Rattle.model.proofs.Cells.{cell_within, cell_edge, listed_ascends, has_listed, insert_listed, delete_listed, listed_none}
-use Rattle.model.proofs.Ascents.{length_delete}
-use Rattle.model.proofs.Members.{vault_member, length_insert, vault_insert, vault_delete}
+use Rattle.edges.specs.declared.edges.Edge.{Edge}
+use Rattle.edges.specs.Edges.{edge, vault_edge}
+use Rattle.edge_sets.specs.EdgeSets.{has, insert, delete, Ascending, ◌∈◌, ◌∉◌, all_vault}
+use Rattle.edge_sets.specs.BitRows.{bit, Row}
+use Rattle.edge_sets.proofs.BitRows.{bit_none}
+use Rattle.edge_sets.specs.Cells.{cell, listed}
+use Rattle.edge_sets.proofs.Cells.{cell_within, cell_edge, listed_ascends, has_listed, insert_listed, delete_listed, listed_none}
+use Rattle.edge_sets.proofs.Ascents.{length_delete}
+use Rattle.edge_sets.proofs.Members.{vault_member, length_insert, vault_insert, vault_delete}
 use Rattle.rows.specs.Flags.{bit_at, flagged}
 
 pub flagged_ascends : (ws : List ℕ) → Ascending (flagged ws)

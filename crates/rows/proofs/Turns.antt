@@ -3,7 +3,7 @@ use Rattle.std.proofs.Common.{◌≡◌, ℕ, zero, suc, ◌/◌, ◌%◌, ◌^�
 use lib.Bits.{bit_xor, xor_zero_r}
 use Rattle.std.proofs.lemmas.Nat.{xor_shr, xor_mod}
 use Rattle.std.proofs.lemmas.Bool.{cases_eq}
-use Rattle.model.proofs.BitRows.{pow_same, pow_other}
+use Rattle.edge_sets.proofs.BitRows.{pow_same, pow_other}
 use Rattle.rows.specs.Flags.{bit_at}
 
 -- a bit of a word that one bit was turned in

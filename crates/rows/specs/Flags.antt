@@ -1,7 +1,7 @@
 -- The set that rows of bits stand for: a row of 256 bits for each user and role, in words of 64.
 use Rattle.std.specs.Prelude.{ℕ, ◌/◌, ◌%◌, ◌^◌, Bool, List, ◌==◌, slice_index}
-use Rattle.model.specs.EdgeSets.{Edges}
-use Rattle.model.specs.Cells.{listed}
+use Rattle.edge_sets.specs.EdgeSets.{Edges}
+use Rattle.edge_sets.specs.Cells.{listed}
 
 -- bit c of the words
 abbrev pub bit_at : List ℕ → ℕ → Bool

@@ -1,5 +1,5 @@
 -- The set of edges that rows hold.
-use Rattle.model.specs.EdgeSets.{Edges}
+use Rattle.edge_sets.specs.EdgeSets.{Edges}
 use Rattle.rows.specs.declared.rows.Rows.{Rows}
 use Rattle.rows.specs.Flags.{flagged}
 

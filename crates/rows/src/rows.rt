@@ -1,21 +1,22 @@
 ghost use Rattle.std.specs.Prelude.{◌≡◌, ◌<◌, ◌≤◌, true, length};
-ghost use Rattle.terms.specs.Graph.{vault_edge};
-ghost use Rattle.model.specs.EdgeSets.{◌∈◌, ◌∉◌, insert, delete, all_vault, ascends};
-ghost use Rattle.model.specs.BitRows.{Row};
-ghost use Rattle.model.proofs.Tables.{table_of, few_of};
-ghost use Rattle.stores.specs.Putting.{Sought};
+ghost use Rattle.edges.specs.Edges.{vault_edge};
+ghost use Rattle.edge_sets.specs.EdgeSets.{◌∈◌, ◌∉◌, insert, delete, all_vault, ascends};
+ghost use Rattle.edge_sets.specs.BitRows.{Row};
+ghost use Rattle.edge_sets.proofs.Tables.{table_of, few_of};
+ghost use Rattle.stores.specs.Stores.{Sought};
 ghost use Rattle.rows.specs.Flags.{flagged};
 
 use crate::words::Words;
-use faults::store::StoreFault;
-use model::cell::cell_of;
-use model::roles::Roles;
+use edge_sets::Roles;
+use edge_sets::cell::cell_of;
+use edges::Edge;
+use refusals::StoreFault;
 use std::alloc::{AllocError, Global};
-use stores::store::{LIMITS, Made, Reader, Store};
-use terms::edges::Edge;
+use stores::store::LIMITS;
+use stores::{NewStore, Reader, Store};
 
-// A store that keeps a row of 256 bits for each user and each role. Its count stands beside the rows,
-// since counting their bits would read all of them.
+/// A store that keeps a row of 256 bits for each user and each role. Its count stands beside the rows,
+/// since counting their bits would read all of them.
 #[derive(Drop)]
 pub struct Rows {
     words: Words,
@@ -134,9 +135,9 @@ impl Store for Rows {
     }
 }
 
-impl Made for Rows {
-    fn new(heap: Global, limit: usize) -> Result<Rows, AllocError> {
-        let words = Words::blank(heap)?;
+impl NewStore for Rows {
+    fn new(alloc: Global, limit: usize) -> Result<Rows, AllocError> {
+        let words = Words::blank(alloc)?;
         Ok(Rows {
             words,
             count: 0,

@@ -3,7 +3,7 @@ ghost use Rattle.std.specs.Prelude.{◌≡◌, ℕ, ◌<◌, [], List, IfOk, not
 use std::alloc::{AllocError, Global};
 use std::marker::Model;
 
-// 128 rows of 256 bits, in words of 64. It means the list of its words.
+/// 128 rows of 256 bits, in words of 64. It means the list of its words.
 #[derive(Drop)]
 pub struct Words {
     words: Vec<u64>,
@@ -22,10 +22,10 @@ impl Words {
     ghost use Rattle.rows.specs.Flags.{bit_at, flagged};
 
     // Words whose bits are all clear.
-    pub(crate) fn blank(heap: Global) -> Result<Words, AllocError>
+    pub(crate) fn blank(alloc: Global) -> Result<Words, AllocError>
         ensures { IfOk result (λ w. flagged w ≡ []) }
     {
-        let words = vec![in heap; 0u64; 512]?;
+        let words = vec![in alloc; 0u64; 512]?;
         Ok(Words { words })
     }
 

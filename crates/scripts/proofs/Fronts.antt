@@ -1,22 +1,22 @@
 -- A line is answered by its first 129 bytes.
-use Rattle.std.proofs.Common.{◌≡◌, ℕ, ◌+◌, ◌<◌, ◌≤◌, Bool, cond, List, [], ◌∷◌, ◌++◌, length, take, set, Some, None, Option, Result, inl, inr, refl, sym, ap, ◌∙◌, subst, arith}
+use Rattle.std.proofs.Common.{◌≡◌, ℕ, ◌<◌, ◌≤◌, Bool, cond, List, [], ◌∷◌, ◌++◌, length, take, Some, None, Option, Result, inl, inr, refl, sym, ap, ◌∙◌, subst, arith}
 use Rattle.std.proofs.lemmas.Bool.{lt-leb, cases_lt}
-use Rattle.std.proofs.lemmas.List.{take_all, take-take, take-append-le, length-append, take_more_set, length-take-le}
-use Rattle.faults.specs.declared.text.TextFault.{TextFault}
-use Rattle.faults.specs.declared.script.ScriptFault.{ScriptFault}
-use Rattle.meaning.specs.Precedence.{Rule}
-use Rattle.faults.specs.declared.text.TextFault.TheVariants.{Malformed}
-use Rattle.text.specs.Reading.{at, Need, asked, reading}
-use Rattle.text.specs.Forms.{form_of, too_long, judged}
+use Rattle.std.proofs.lemmas.List.{take_all, take-take, take-append-le, length-append, length-take-le}
+use Rattle.lines.specs.declared.fault.TextFault.{TextFault}
+use Rattle.scripts.specs.declared.fault.ScriptFault.{ScriptFault}
+use Rattle.precedence.specs.Precedence.{Rule}
+use Rattle.lines.specs.declared.fault.TextFault.TheVariants.{Malformed}
+use Rattle.lines.specs.Reading.{Need, asked, reading}
+use Rattle.lines.specs.Forms.{form_of, too_long, judged}
 use Rattle.centre.specs.declared.installation.Installation.{Installation}
 use Rattle.scripts.specs.Answering.{Answered, unread, carried}
 
-pub one_more : (xs : List ℕ) (n b : ℕ) → n < length xs → n < 129 → take (n + 1) (set xs n b) ≡ take 129 (take n xs ++ (b ∷ []))
-one_more xs n b l m = take_more_set xs n b l ∙ sym (take_all 129 (take n xs ++ (b ∷ [])) (simp length-append (omega (arith, length-take-le n xs (omega arith)))))
+-- one byte more where there is room, and where there is none
+pub one_more : (xs ys : List ℕ) (b : ℕ) → length xs < 129 → ys ≡ xs ++ (b ∷ []) → ys ≡ take 129 (xs ++ (b ∷ []))
+one_more xs ys b l q = q ∙ sym (take_all 129 (xs ++ (b ∷ [])) (simp length-append (omega (arith, l))))
 
-pub full : (xs : List ℕ) (n b : ℕ) → length xs ≡ 129 → n ≡ 129 → take n xs ≡ take 129 (take n xs ++ (b ∷ []))
-full xs n b l m = subst (λ (k : ℕ). take k xs ≡ take 129 (take k xs ++ (b ∷ []))) (sym m)
-    (sym (take-append-le 129 (take 129 xs) (b ∷ []) (omega (arith, length-take-le 129 xs (omega arith))) ∙ take-take 129 129 xs (omega arith)))
+pub full : (xs : List ℕ) (b : ℕ) → length xs ≡ 129 → xs ≡ take 129 (xs ++ (b ∷ []))
+full xs b l = sym (take-append-le 129 xs (b ∷ []) (omega (arith, l)) ∙ take_all 129 xs (omega (arith, l)))
 
 form_front : (s : List ℕ) → form_of (take 129 s) ≡ form_of s
 form_front [] = refl
@@ -24,7 +24,7 @@ form_front (x ∷ s) = refl
 
 long_alike : (s : List ℕ) → 129 ≤ length s → too_long (take 129 s) ≡ too_long s
 long_alike s l =
-    ap (λ (b : Bool). cond b None (Some (Malformed (at 128))))
+    ap (λ (b : Bool). cond b None (Some (Malformed 128)))
     (lt-leb (length (take 129 s)) 128 (omega (arith, length-take-le 129 s l)) ∙ sym (lt-leb (length s) 128 (omega arith)))
 
 judged_alike : (ns : List Need) (s : List ℕ) → 129 ≤ length s → judged ns (take 129 s) ≡ judged ns s

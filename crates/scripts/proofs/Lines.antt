@@ -2,21 +2,21 @@
 use Rattle.std.proofs.Common.{◌≡◌, Bool, true, false, cond, ◌++◌, List, [], ◌∷◌, ℕ, Ok, Err, Result, refl, sym, ap, ◌∙◌, subst}
 use Rattle.calls.specs.declared.call.Call.{Call}
 use Rattle.calls.specs.declared.call.Call.TheVariants.{Declare, Keep, EndNaming, Seat, Open, Command, Apply, Deliver}
-use Rattle.calls.specs.declared.call.CallRecord.{CallRecord}
-use Rattle.terms.specs.declared.edges.Edge.{Edge}
-use Rattle.terms.specs.declared.edges.Change.{Change}
-use Rattle.faults.specs.declared.text.TextFault.{TextFault}
-use Rattle.faults.specs.declared.script.ScriptFault.{ScriptFault}
-use Rattle.faults.specs.declared.script.ScriptFault.TheVariants.{Text}
-use Rattle.meaning.specs.Precedence.{Rule}
-use Rattle.meaning.specs.Installation.{Stage, naming, seating, service}
-use Rattle.meaning.specs.Outcomes.{Answer, Performs}
-use Rattle.meaning.specs.Runs.{recorded, Run, ends, calls}
+use Rattle.rules.specs.declared.record.CallRecord.{CallRecord}
+use Rattle.edges.specs.declared.edges.Edge.{Edge}
+use Rattle.edges.specs.declared.edges.Change.{Change}
+use Rattle.lines.specs.declared.fault.TextFault.{TextFault}
+use Rattle.scripts.specs.declared.fault.ScriptFault.{ScriptFault}
+use Rattle.scripts.specs.declared.fault.ScriptFault.TheVariants.{Text}
+use Rattle.precedence.specs.Precedence.{Rule}
+use Rattle.rules.specs.Installation.{Stage, naming, seating, service}
+use Rattle.rules.specs.Outcomes.{Answer, Performs}
+use Rattle.rules.specs.Runs.{recorded, Run, ends, calls}
 use Rattle.centre.specs.declared.installation.Installation.{Installation}
 use Rattle.centre.specs.declared.installation.Installation.TheVariants.{Naming, Seating, Service}
 use Rattle.centre.specs.declared.office.Office.{Office}
 use Rattle.centre.specs.Offices.{held}
-use Rattle.text.specs.Forms.{form_of, Refused, Said}
+use Rattle.lines.specs.Forms.{form_of, Refused, Said}
 use Rattle.centre.specs.Holding.{Held, installation}
 use Rattle.centre.specs.Installed.{state, rule_of, held_at, Gives}
 use Rattle.centre.specs.Promises.{Does}

@@ -1,18 +1,21 @@
 -- What a line of a script is answered, and what it leaves.
 use Rattle.std.specs.Prelude.{◌≡◌, ℕ, Bool, true, false, cond, List, [], ◌∷◌, ◌++◌, Some, None, Option, Ok, Err, Result, codes, decimal}
-use Rattle.faults.specs.Numbers.{script_number, centre_place, text_place}
-use Rattle.faults.specs.declared.text.TextFault.{TextFault}
-use Rattle.faults.specs.declared.script.ScriptFault.{ScriptFault}
-use Rattle.faults.specs.declared.script.ScriptFault.TheVariants.{Text, Centre}
+use Rattle.scripts.specs.Faults.{script_number}
+use Rattle.rules.specs.declared.fault.CentreFault.{CentreFault}
+use Rattle.rules.specs.declared.fault.CentreFault.TheVariants as refused
+use Rattle.lines.specs.Faults.{column_of}
+use Rattle.lines.specs.declared.fault.TextFault.{TextFault}
+use Rattle.scripts.specs.declared.fault.ScriptFault.{ScriptFault}
+use Rattle.scripts.specs.declared.fault.ScriptFault.TheVariants.{Text, Centre}
 use Rattle.calls.specs.declared.call.Call.{Call}
 use Rattle.calls.specs.declared.call.Call.TheVariants.{Declare, Keep, EndNaming, Seat, Open, Command, Apply, Deliver}
-use Rattle.calls.specs.declared.call.CallRecord.{CallRecord}
-use Rattle.meaning.specs.Precedence.{Rule}
-use Rattle.meaning.specs.Installation.{Stage}
-use Rattle.meaning.specs.Questions.{in_naming}
-use Rattle.meaning.specs.Outcomes.{Answer}
-use Rattle.meaning.specs.Runs.{recorded, Run}
-use Rattle.text.specs.Forms.{form_of, Refused, Said}
+use Rattle.rules.specs.declared.record.CallRecord.{CallRecord}
+use Rattle.precedence.specs.Precedence.{Rule}
+use Rattle.rules.specs.Installation.{Stage}
+use Rattle.rules.specs.Questions.{in_naming}
+use Rattle.rules.specs.Outcomes.{Answer}
+use Rattle.rules.specs.Runs.{recorded, Run}
+use Rattle.lines.specs.Forms.{form_of, Refused, Said}
 use Rattle.centre.specs.declared.installation.Installation.{Installation}
 use Rattle.centre.specs.declared.installation.Installation.TheVariants.{Service}
 use Rattle.centre.specs.Holding.{Held}
@@ -23,10 +26,27 @@ abbrev pub line_answer : Answer → Result (Unit {0}) ScriptFault
 line_answer (Ok n) = Ok tt
 line_answer (Err f) = Err (Centre f)
 
--- where a refusal is to be found: the column of a line, or the vault that is short of room
+-- the vault that is printed behind a refusal: the one that is short of room
+abbrev pub short_vault : CentreFault → Option ℕ
+short_vault refused.NoUser = None
+short_vault refused.NoEdge = None
+short_vault refused.Unauthorised = None
+short_vault refused.PolicyFull = None
+short_vault (refused.StoreRoom v) = Some v
+short_vault (refused.LinkRoom v) = Some v
+short_vault refused.TooDeep = None
+short_vault refused.NamesFull = None
+short_vault (refused.NoVault v) = None
+short_vault refused.NoPrivilege = None
+short_vault (refused.NothingWaiting v) = None
+short_vault refused.WrongStage = None
+short_vault (refused.Link v f) = None
+short_vault (refused.Store v f) = None
+
+-- what is printed of where a refusal is: the column of a line, or the vault that is short of room
 abbrev pub place_of : ScriptFault → Option ℕ
-place_of (Text f) = Some (text_place f).column
-place_of (Centre f) = elim (centre_place f) [ None ↦ None | Some p ↦ Some p.vault ]
+place_of (Text f) = Some (column_of f)
+place_of (Centre f) = short_vault f
 
 abbrev pub behind : Option ℕ → List ℕ
 behind None = []

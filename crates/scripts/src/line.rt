@@ -4,15 +4,14 @@ ghost use Rattle.centre.specs.Installed.{state, rule_of, Gives};
 ghost use Rattle.centre.specs.Promises.{Kept};
 ghost use Rattle.scripts.specs.Answering.{line_answer, Passed, Carried, Answered, Heard};
 
-use calls::call::Call;
-use centre::installation::Installation;
+use crate::fault::ScriptFault;
+use calls::Call;
 use centre::running::give;
-use centre::service::Service;
-use faults::centre::CentreFault;
-use faults::script::ScriptFault;
-use precedence::precedence::Precedence;
-use text::reader::read_call;
-use vaults::bank::Bank;
+use centre::{Installation, Service};
+use lines::reader::read_call;
+use precedence::Precedence;
+use rules::CentreFault;
+use vaults::Bank;
 
 // An answer without its number, which no script shows.
 fn without_number(answer: Result<u16, CentreFault>) -> Result<(), ScriptFault>
@@ -46,8 +45,8 @@ fn carry<B: Bank, R: Precedence>(
     }
 }
 
-// Answers one line of a script, read against what is declared. A line that cannot be read alters
-// nothing. The first 129 bytes of a line are answered as the line is.
+/// Answers one line of a script, read against what is declared. A line that cannot be read alters
+/// nothing. The first 129 bytes of a line are answered as the line is.
 pub fn answer_line<B: Bank, R: Precedence>(
     at: Installation<B, R>,
     line: &[u8],
@@ -68,7 +67,7 @@ pub fn answer_line<B: Bank, R: Precedence>(
     }
 }
 
-// Answers one line of a script to an installation in service, which stays with its holder.
+/// Answers one line of a script to an installation in service, which stays with its holder.
 pub fn hear_line<B: Bank, R: Precedence>(
     service: &mut Service<B, R>,
     line: &[u8],

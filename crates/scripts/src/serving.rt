@@ -1,11 +1,11 @@
+use crate::fault::ScriptFault;
 use crate::front::Front;
 use crate::line::{answer_line, hear_line};
 use crate::shown::Shown;
-use centre::installation::Installation;
-use faults::script::ScriptFault;
-use precedence::precedence::Precedence;
+use centre::Installation;
+use precedence::Precedence;
 use std::io::{self, Read, Write};
-use vaults::bank::Bank;
+use vaults::Bank;
 
 // Prints the answer to a line.
 fn print<W: Write>(answer: Result<(), ScriptFault>, out: &mut W) -> io::Result<()> {
@@ -24,9 +24,9 @@ fn answer<B: Bank + Drop, R: Precedence + Drop, W: Write>(
     Ok(next)
 }
 
-// Answers every line of a script. The last one may lack its end, if it is not empty. Of each line only the
-// front is kept, so a script may be of any length. An installation in service is lent to the lines, as moving
-// it from line to line costs a tenth of the time.
+/// Answers every line of a script. The last one may lack its end, if it is not empty. Of each line only the
+/// front is kept, so a script may be of any length. An installation in service is lent to the lines, as moving
+/// it from line to line costs a tenth of the time.
 pub fn serve<B: Bank + Drop, R: Precedence + Drop, I: Read, W: Write>(
     at: Installation<B, R>,
     input: &mut I,

@@ -1,11 +1,12 @@
 ghost use Rattle.std.specs.Prelude.{◌≡◌};
 ghost use Rattle.scripts.specs.Answering.{place_of};
 
-use faults::refusal::Refusal;
-use faults::script::ScriptFault;
+use crate::fault::ScriptFault;
+use refusals::Refusal;
+use rules::CentreFault;
 use std::fmt;
 
-// The answer to a line, as it is printed: 0, or the number of the refusal, then its place where it has one.
+/// The answer to a line, as it is printed: 0, or the number of the refusal, then its place where it has one.
 #[derive(Clone, Copy)]
 pub struct Shown(pub Result<(), ScriptFault>);
 
@@ -14,8 +15,10 @@ fn place(fault: ScriptFault) -> Option<usize>
     ensures { result ≡ place_of fault }
 {
     match fault {
-        ScriptFault::Text(fault) => Some(fault.place().column),
-        ScriptFault::Centre(fault) => Some(fault.place()?.vault),
+        ScriptFault::Text(fault) => Some(fault.column()),
+        ScriptFault::Centre(CentreFault::StoreRoom { vault }) => Some(vault),
+        ScriptFault::Centre(CentreFault::LinkRoom { vault }) => Some(vault),
+        ScriptFault::Centre(_) => None,
     }
 }
 

@@ -1,1 +1,1 @@
-pub mod Putting
+pub mod Stores

@@ -1,8 +1,8 @@
 -- A vault above 0 is a vault of the rest, its number one less.
 use Rattle.std.proofs.Common.{◌≡◌, ℕ, zero, suc, ◌-◌, ◌<◌, Bool, cond, ltb, List, ◌∷◌, length, Err, Result, ap, ◌∙◌, arith}
 use Rattle.std.proofs.lemmas.Bool.Decides.{nat_tests}
-use Rattle.faults.specs.declared.bank.BankFault.{BankFault}
-use Rattle.faults.specs.declared.bank.BankFault.TheVariants.{NoVault}
+use Rattle.refusals.specs.declared.bank.BankFault.{BankFault}
+use Rattle.refusals.specs.declared.bank.BankFault.TheVariants.{NoVault}
 use Rattle.vaults.specs.Sites.{Site, site_at, alter, asked}
 
 less_one : (v : ℕ) → suc v - 1 ≡ v

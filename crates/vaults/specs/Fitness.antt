@@ -3,7 +3,7 @@ use Rattle.std.specs.Prelude.{◌≡◌, ℕ, ◌<◌, ◌≤◌, List, length}
 use Rattle.vaults.specs.Sites.{Site, site_at}
 
 -- empty, and with limits that a vault may have
-pub record FitSite (x : Site) : Type 0 where
+pub record IsFitSite (x : Site) : Type 0 where
   pub nothing_waits : length x.waiting ≡ 0
   pub nothing_held : length x.table ≡ 0
   pub store_least : 1 ≤ x.store_limit
@@ -11,7 +11,7 @@ pub record FitSite (x : Site) : Type 0 where
   pub link_least : 2 ≤ x.link_limit
   pub link_most : x.link_limit ≤ 1024
 
-pub record Fit (xs : List Site) : Type 0 where
+pub record IsFit (xs : List Site) : Type 0 where
   pub some : 1 ≤ length xs
   pub few : length xs ≤ 8
-  pub each : (v : ℕ) → v < length xs → FitSite (site_at xs v)
+  pub each : (v : ℕ) → v < length xs → IsFitSite (site_at xs v)

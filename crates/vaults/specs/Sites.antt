@@ -1,15 +1,15 @@
 -- What a bank means: a list of sites. A site is what stands at a vault: its link, by the messages that wait and
 -- their limit, and its store, by the table and its limit.
 use Rattle.std.specs.Prelude.{ℕ, ◌≤◌, cond, List, [], ◌∷◌, length, Ok, Err, Result, nat_lt, slice_index_or, slice_set}
-use Rattle.terms.specs.declared.edges.Edge.{Edge}
-use Rattle.terms.specs.declared.edges.Change.{Change}
-use Rattle.model.specs.EdgeSets.{Edges, Table, delete}
-use Rattle.faults.specs.declared.link.LinkFault.{LinkFault}
-use Rattle.links.specs.Waiting.{send_answer, sent, rest}
-use Rattle.faults.specs.declared.store.StoreFault.{StoreFault}
-use Rattle.stores.specs.Putting.{put_answer, put}
-use Rattle.faults.specs.declared.bank.BankFault.{BankFault}
-use Rattle.faults.specs.declared.bank.BankFault.TheVariants.{NoVault, Link, Store}
+use Rattle.edges.specs.declared.edges.Edge.{Edge}
+use Rattle.edges.specs.declared.edges.Change.{Change}
+use Rattle.edge_sets.specs.EdgeSets.{Edges, Table, delete}
+use Rattle.refusals.specs.declared.link.LinkFault.{LinkFault}
+use Rattle.links.specs.Links.{send_answer, sent, rest}
+use Rattle.refusals.specs.declared.store.StoreFault.{StoreFault}
+use Rattle.stores.specs.Stores.{put_answer, put}
+use Rattle.refusals.specs.declared.bank.BankFault.{BankFault}
+use Rattle.refusals.specs.declared.bank.BankFault.TheVariants.{NoVault, Link, Store}
 
 pub record Site : Type 0 where
   pub waiting : List Change
@@ -31,10 +31,10 @@ alter v f xs = slice_set xs v (f (site_at xs v))
 -- What each change does to its site
 
 abbrev pub with_waiting : List Change → Site → Site
-with_waiting ms x = record { waiting = ms; link_limit = x.link_limit; table = x.table; store_limit = x.store_limit }
+with_waiting ms x = record x { waiting = ms }
 
 abbrev pub with_table : Edges → Site → Site
-with_table s x = record { waiting = x.waiting; link_limit = x.link_limit; table = s; store_limit = x.store_limit }
+with_table s x = record x { table = s }
 
 abbrev pub send_to : Change → Site → Site
 send_to m x = with_waiting (sent x.link_limit x.waiting m) x

@@ -1,7 +1,7 @@
 -- The table of each vault of a bank. The law of readers rests on it, and code cites of its own crate what stands in specs/.
 use Rattle.std.specs.Prelude.{ℕ, zero, suc, List, [], ◌∷◌}
 use Rattle.std.proofs.Common.{refl, arith}
-use Rattle.model.specs.EdgeSets.{Table}
+use Rattle.edge_sets.specs.EdgeSets.{Table}
 use Rattle.vaults.specs.Sites.{Site, site_at, AllTables}
 
 pub table_at : (xs : List Site) → AllTables xs → (v : ℕ) → Table (site_at xs v).table

@@ -1,13 +1,13 @@
 ghost use Rattle.std.specs.Prelude.{◌≡◌, ℕ, List, length, nat_lt};
-ghost use Rattle.model.specs.EdgeSets.{has};
-ghost use Rattle.links.specs.Waiting.{first};
+ghost use Rattle.edge_sets.specs.EdgeSets.{has};
+ghost use Rattle.links.specs.Links.{first};
 ghost use Rattle.vaults.specs.Loads.{load_of};
 ghost use Rattle.vaults.specs.Sites.{Site, site_at, alter, send_to, strike_at, put_into, drop_from, asked, link_says, store_says, accepted, AllTables, AllBounded};
 
-use faults::bank::BankFault;
-use terms::edges::{Change, Edge};
+use edges::{Change, Edge};
+use refusals::BankFault;
 
-// How full a vault is: the messages that wait and the edges that are held, with their limits.
+/// How full a vault is: the messages that wait and the edges that are held, with their limits.
 #[derive(Clone, Copy)]
 pub struct Load {
     pub waiting: usize,
@@ -16,9 +16,9 @@ pub struct Load {
     pub store_limit: usize,
 }
 
-// A bank numbers its vaults from 0; each has a link and a store of any make. It means the list of
-// its sites. A change of a vault that is not there is refused with 9 and alters nothing; a question
-// about one is answered as for a vault with limits 0, which needs no Option.
+/// A bank numbers its vaults from 0; each has a link and a store of any make. It means the list of
+/// its sites. A change of a vault that is not there is refused with 9 and alters nothing; a question
+/// about one is answered as for a vault with limits 0, which needs no Option.
 pub trait Bank {
     ghost sites: { Self → List Site };
 
@@ -47,7 +47,7 @@ pub trait Bank {
     fn holds(&self, vault: usize, edge: Edge) -> bool
         ensures { result ≡ has (site_at (sites self.now) vault).table edge };
 
-    // How much waits and is held at a vault, and how much may.
+    /// How much waits and is held at a vault, and how much may.
     fn load(&self, vault: usize) -> Load
         ensures { result ≡ load_of (site_at (sites self.now) vault) };
 

@@ -3,10 +3,10 @@ ghost use Rattle.vaults.specs.Sites.{Site};
 
 use crate::bank::{Bank, Load};
 use crate::vault::Vault;
-use faults::bank::BankFault;
-use links::link::Link;
-use stores::store::{Reader, Store};
-use terms::edges::{Change, Edge};
+use edges::{Change, Edge};
+use links::Link;
+use refusals::BankFault;
+use stores::{Reader, Store};
 
 // The bank without vaults.
 impl Bank for () {

@@ -2,11 +2,11 @@ ghost use Rattle.vaults.specs.Sites.{site_at};
 ghost use Rattle.vaults.specs.Tables.{table_at};
 
 use crate::bank::Bank;
-use stores::store::Reader;
-use terms::edges::Edge;
+use edges::Edge;
+use stores::Reader;
 
-// The table of one vault of a bank, to be read where it stands; that of a vault which is not there is
-// empty.
+/// The table of one vault of a bank, to be read where it stands; that of a vault which is not there is
+/// empty.
 #[derive(Clone, Copy)]
 pub struct VaultTable<'a, B: Bank> {
     pub bank: &'a B,

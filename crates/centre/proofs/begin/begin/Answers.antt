@@ -1,4 +1,4 @@
-use Rattle.books.specs.Books.{ledger}
+use Rattle.policy.specs.Books.{ledger}
 use Rattle.centre.proofs.Runs.{run_from, run_from_reached}
 use Rattle.centre.proofs.begin.begin.Goals as goal
 

@@ -1,6 +1,6 @@
 use Rattle.std.proofs.Common.{◌<◌, ◌≤◌, length, refl, ◌∙◌, arith}
 use Rattle.std.proofs.Math.Seq.{map-set_same}
-use Rattle.calls.specs.declared.call.CallRecord.{CallRecord}
+use Rattle.rules.specs.declared.record.CallRecord.{CallRecord}
 use Rattle.centre.specs.Installed.{state}
 use Rattle.centre.proofs.Runs.{run_from_on, run_from_all, run_answers, performs_by}
 use Rattle.centre.proofs.running.run.Goals as goal

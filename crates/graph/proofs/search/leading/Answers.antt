@@ -1,7 +1,7 @@
 use Rattle.std.proofs.Common.{◌≡◌, true, arith}
 use Rattle.std.proofs.lemmas.Bool.Decides.{nat_tests}
-use Rattle.terms.specs.Graph.{is_role}
-use Rattle.model.proofs.BitRows.{has_with}
+use Rattle.edges.specs.Edges.{is_role}
+use Rattle.edge_sets.proofs.BitRows.{has_with}
 use Rattle.graph.proofs.search.leading.Goals as goal
 use Rattle.graph.proofs.search.leading.Goals.{then-reaches, else-reaches}
 

@@ -1,7 +1,7 @@
 use Rattle.std.proofs.Common.{◌≡◌, ℕ, true, ◌&&◌, nat_lt}
-use Rattle.terms.specs.Graph.{is_role}
-use Rattle.model.specs.BitRows.{has_role}
-use Rattle.meaning.specs.Paths.{reaches}
+use Rattle.edges.specs.Edges.{is_role}
+use Rattle.edge_sets.specs.BitRows.{has_role}
+use Rattle.graph.specs.Paths.{reaches}
 use Rattle.graph.proofs.search.leading.Given as goal
 
 -- of the roles before this one, those that reach the vertex

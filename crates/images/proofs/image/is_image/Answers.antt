@@ -2,8 +2,8 @@ use Rattle.std.proofs.Common.{sym, ap, ◌∙◌, arith}
 use Rattle.std.specs.Prelude.{◌+◌, ◌*◌, length, nat_eq}
 use Rattle.std.proofs.lemmas.Bool.{and_left}
 use Rattle.std.proofs.lemmas.Iterator.Consumers.{YieldsList-from_first, count_from_yields_List}
-use Rattle.formats.specs.Images.{taken}
-use Rattle.formats.proofs.Rounds.{judged}
+use Rattle.image_format.specs.Images.{taken}
+use Rattle.image_format.proofs.Rounds.{judged}
 use Rattle.images.specs.Reading.{ahead}
 use Rattle.images.proofs.Steps.{all_read}
 use Rattle.images.proofs.image.is_image.Goals as goal

@@ -1,4 +1,4 @@
-use Rattle.formats.proofs.Rounds.{images_stand}
+use Rattle.image_format.proofs.Rounds.{images_stand}
 use Rattle.images.proofs.laws.images_stand.Goals as goal
 
 pub returns : goal.returns

@@ -1,6 +1,6 @@
 use Rattle.std.proofs.Common.{◌+◌, rules, ◌∙◌, arith}
-use Rattle.terms.specs.Graph.{vault_edge}
-use Rattle.model.specs.Cells.{edge_at}
+use Rattle.edges.specs.Edges.{vault_edge}
+use Rattle.edge_sets.specs.Cells.{edge_at}
 use Rattle.std.proofs.lemmas.Iterator.{YieldsList-from_range}
 use Rattle.std.proofs.lemmas.Iterator.Search.{all_from_yields_List}
 use Rattle.images.proofs.Steps.{vault_along}

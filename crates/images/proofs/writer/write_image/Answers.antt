@@ -1,7 +1,7 @@
 use Rattle.std.proofs.Common.{rules, ◌≡◌, ℕ, Bool, sym, refl, ap, ◌∙◌, arith}
-use Rattle.terms.specs.declared.edges.Edge.{Edge}
-use Rattle.model.specs.EdgeSets.{Edges, has}
-use Rattle.model.specs.Cells.{edge_at}
+use Rattle.edges.specs.declared.edges.Edge.{Edge}
+use Rattle.edge_sets.specs.EdgeSets.{Edges, has}
+use Rattle.edge_sets.specs.Cells.{edge_at}
 use Rattle.images.proofs.Drafts.{walk_starts, walk_room, walk_holds, walk_lacks, walk_ends}
 use Rattle.images.proofs.writer.write_image.Goals as goal
 use Rattle.images.proofs.writer.write_image.Goals.{then-holds, else-holds}

@@ -4,7 +4,7 @@ use Rattle.std.specs.List.{AllWithin, HoldsAt, range_with_len}
 use Rattle.std.proofs.lemmas.Iterator.{cases_from_all, YieldsList-from_range}
 use Rattle.std.proofs.lemmas.List.FromFn.{get_or-range_with_len}
 use Rattle.vaults.specs.Sites.{Site, site_at}
-use Rattle.vaults.specs.Fitness.{FitSite, Fit}
+use Rattle.vaults.specs.Fitness.{IsFitSite, IsFit}
 use Rattle.vaults.proofs.inspection.are_fit.Goals as goal
 
 -- what was asked of the first eight numbers, one by one
@@ -17,7 +17,7 @@ of_eight Yes No false one = one.2 0
 pub returns : goal.returns
 returns g c =
     let sites : List Site = g.B.Bank.sites c.args.bank.now in
-    let Yes : ℕ → Type 0 = λ v. v < length sites → FitSite (site_at sites v) in
-    let No : Type 0 = Fit sites → ⊥ in
+    let Yes : ℕ → Type 0 = λ v. v < length sites → IsFitSite (site_at sites v) in
+    let No : Type 0 = IsFit sites → ⊥ in
     of_eight Yes No c.all.result
     (cases_from_all _ _ _ Yes (λ _. No) c.all.ensures.ran (YieldsList-from_range 0 8 8 refl refl) (λ x q k. search (rules, tests)) (λ x q k. search (rules, tests)))

@@ -1,4 +1,4 @@
-use Rattle.meaning.specs.Installation.{naming}
+use Rattle.rules.specs.Installation.{naming}
 use Rattle.centre.specs.Offices.{held}
 use Rattle.centre.proofs.Stages.{brought_on, does}
 use Rattle.centre.proofs.naming.Naming.keep.Goals as goal

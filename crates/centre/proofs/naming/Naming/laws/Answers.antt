@@ -1,4 +1,4 @@
-use Rattle.meaning.specs.Installation.{naming}
+use Rattle.rules.specs.Installation.{naming}
 use Rattle.centre.specs.Offices.{held}
 use Rattle.centre.proofs.Stages.{kept}
 use Rattle.centre.proofs.naming.Naming.laws.Goals as goal

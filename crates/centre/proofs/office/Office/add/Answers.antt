@@ -1,8 +1,9 @@
 use Rattle.std.proofs.Common.{◌≡◌, true, false, length, ltb, sym, refl, ◌∙◌}
 use Rattle.std.proofs.lemmas.Bool.{not-false}
 use Rattle.std.proofs.lemmas.Result.{err_from_is_err_and}
-use Rattle.model.specs.EdgeSets.{has}
-use Rattle.books.specs.Books.{policy_edges}
+use Rattle.edge_sets.specs.EdgeSets.{has}
+use Rattle.privileges.proofs.Declared.{proper_decides}
+use Rattle.policy.specs.Books.{policy_edges}
 use Rattle.centre.specs.Offices.{held}
 use Rattle.centre.proofs.Changing.{added_short, added_entered, entered_ok}
 use Rattle.centre.proofs.office.Office.add.Goals as goal
@@ -24,7 +25,7 @@ returns-clause-change g c t fine =
     (record { edge = c.new-addition.ensures.edge; behind = c.new-addition.ensures.behind; concerned = c.new-addition.ensures.concerned }) fine c.requires
     (sym c.ask_room.ensures ∙ c.in_ok-ask_room.was) _ (held c.announce.new.self)
     (record {
-      edges = c.enter.ensures.edges ∙ entered_ok (policy_edges c.args.self.now.policy) c.args.edge _ (sym c.enter.ensures.answer ∙ c.in_ok-enter.was);
+      edges = c.enter.ensures.edges ∙ entered_ok c.args.self.now.names (policy_edges c.args.self.now.policy) c.args.edge fine.few_names ((proper_decides c.args.self.now.names c.args.edge).0 c.requires) space;
       told = c.enter.ensures.told;
       sites = refl;
       rest = record { rule = refl; declared = refl; keeping = refl };

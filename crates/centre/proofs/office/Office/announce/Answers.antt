@@ -1,5 +1,5 @@
 use Rattle.std.proofs.Common.{◌≡◌, ◌<◌, ◌≤◌, length, inl, inr, sym, refl, ap, ◌∙◌, arith}
-use Rattle.books.specs.Books.{policy_edges}
+use Rattle.policy.specs.Books.{policy_edges}
 use Rattle.centre.specs.Offices.{held}
 use Rattle.centre.proofs.Announcing.{announces_nothing, announces_upto, announces_all, turn_passes, turn_sends}
 use Rattle.centre.proofs.office.Office.announce.Goals as goal

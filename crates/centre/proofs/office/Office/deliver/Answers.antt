@@ -1,7 +1,7 @@
 use Rattle.std.proofs.Common.{Ok, Result, refl, subst}
 use Rattle.std.proofs.lemmas.Result.{err_from_is_err_and}
-use Rattle.faults.specs.declared.centre.CentreFault.{CentreFault}
-use Rattle.meaning.specs.Outcomes.{applied}
+use Rattle.rules.specs.declared.fault.CentreFault.{CentreFault}
+use Rattle.rules.specs.Outcomes.{applied}
 use Rattle.centre.specs.Offices.{held}
 use Rattle.centre.specs.Heads.{Visited}
 use Rattle.centre.proofs.Endings.{deliver_struck, deliver_refused, visit_within}

@@ -1,5 +1,5 @@
 use Rattle.std.proofs.Common.{sym, ◌∙◌}
-use Rattle.meaning.specs.Installation.{seating}
+use Rattle.rules.specs.Installation.{seating}
 use Rattle.centre.specs.Holding.{installation}
 use Rattle.centre.specs.Offices.{held}
 use Rattle.centre.proofs.Endings.{seat_ends}

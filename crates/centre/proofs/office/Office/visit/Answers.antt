@@ -1,9 +1,9 @@
 use Rattle.std.proofs.Common.{◌≡◌, ◌<◌, length, Some, Result, sym, refl, ap, ◌∙◌, arith}
-use Rattle.terms.specs.declared.edges.Change.TheVariants.{Add}
-use Rattle.faults.specs.declared.centre.CentreFault.{CentreFault}
-use Rattle.links.specs.Waiting.{first}
+use Rattle.edges.specs.declared.edges.Change.TheVariants.{Add}
+use Rattle.rules.specs.declared.fault.CentreFault.{CentreFault}
+use Rattle.links.specs.Links.{first}
 use Rattle.vaults.specs.Sites.{site_at}
-use Rattle.meaning.specs.Outcomes.{applied}
+use Rattle.rules.specs.Outcomes.{applied}
 use Rattle.centre.specs.Heads.{sites_after}
 use Rattle.centre.proofs.Visits.{put_result, put_sites}
 use Rattle.centre.proofs.office.Office.visit.Goals as goal

@@ -1,5 +1,5 @@
 use Rattle.std.proofs.Common.{refl}
-use Rattle.meaning.specs.Installation.{seating}
+use Rattle.rules.specs.Installation.{seating}
 use Rattle.centre.specs.Offices.{held}
 use Rattle.centre.proofs.Stages.{brought_on, does}
 use Rattle.centre.proofs.seating.Seating.apply.Goals as goal

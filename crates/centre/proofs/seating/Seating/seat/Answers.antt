@@ -1,4 +1,4 @@
-use Rattle.meaning.specs.Installation.{seating}
+use Rattle.rules.specs.Installation.{seating}
 use Rattle.centre.specs.Offices.{held}
 use Rattle.centre.proofs.Stages.{brought_fine, does_fine}
 use Rattle.centre.proofs.seating.Seating.seat.Goals as goal

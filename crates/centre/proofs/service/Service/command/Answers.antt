@@ -1,4 +1,4 @@
-use Rattle.meaning.specs.Installation.{service}
+use Rattle.rules.specs.Installation.{service}
 use Rattle.centre.specs.Offices.{held}
 use Rattle.centre.proofs.Stages.{brought_fine, does_fine}
 use Rattle.centre.proofs.service.Service.command.Goals as goal

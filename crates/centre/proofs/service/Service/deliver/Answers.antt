@@ -1,5 +1,5 @@
 use Rattle.std.proofs.Common.{refl}
-use Rattle.meaning.specs.Installation.{service}
+use Rattle.rules.specs.Installation.{service}
 use Rattle.centre.specs.Offices.{held}
 use Rattle.centre.proofs.Stages.{brought_on, does}
 use Rattle.centre.proofs.service.Service.deliver.Goals as goal

@@ -1,4 +1,4 @@
-use Rattle.meaning.specs.Installation.{service}
+use Rattle.rules.specs.Installation.{service}
 use Rattle.centre.specs.Offices.{held}
 use Rattle.centre.proofs.Stages.{kept}
 use Rattle.centre.proofs.service.Service.laws.Goals as goal

@@ -1,6 +1,6 @@
 use Rattle.std.proofs.Common.{◌<◌, length, refl, ◌∙◌, arith}
 use Rattle.std.proofs.Math.Seq.{map-set_same}
-use Rattle.meaning.specs.Runs.{ends}
+use Rattle.rules.specs.Runs.{ends}
 use Rattle.centre.specs.Promises.{as_call, as_asked}
 use Rattle.centre.proofs.Runs.{run_on, performs_by}
 use Rattle.centre.proofs.service.Service.work.Goals as goal

@@ -1,6 +1,6 @@
 use Rattle.std.proofs.Common.{◌≡◌, map, take}
-use Rattle.meaning.specs.Installation.{service}
-use Rattle.meaning.specs.Runs.{Run}
+use Rattle.rules.specs.Installation.{service}
+use Rattle.rules.specs.Runs.{Run}
 use Rattle.centre.specs.Holding.{installation}
 use Rattle.centre.specs.Promises.{as_call, as_asked}
 use Rattle.centre.proofs.service.Service.work.Given as goal

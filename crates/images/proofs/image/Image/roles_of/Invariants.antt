@@ -1,4 +1,4 @@
-use Rattle.formats.specs.Images.{taken}
+use Rattle.image_format.specs.Images.{taken}
 use Rattle.images.proofs.Places.{Gathered}
 use Rattle.images.proofs.image.Image.roles_of.Given as goal
 

@@ -1,6 +1,6 @@
 use Rattle.std.proofs.Common.{◌≡◌, ℕ, suc, ◌-◌, ◌<◌, ◌≤◌, length, get_or}
-use Rattle.formats.specs.Runs.{end}
-use Rattle.formats.specs.Images.{taken}
+use Rattle.image_format.specs.Runs.{end}
+use Rattle.image_format.specs.Images.{taken}
 use Rattle.images.specs.Reading.{no_run}
 use Rattle.images.proofs.image.Image.seek.Given as goal
 

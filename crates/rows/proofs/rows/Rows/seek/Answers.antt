@@ -1,8 +1,8 @@
 use Rattle.std.proofs.Common.{◌≡◌, sym, ap, ◌∙◌}
 use Rattle.std.proofs.lemmas.Bool.{false≢true}
-use Rattle.model.specs.EdgeSets.{has}
-use Rattle.model.proofs.Ascents.{insert_held}
-use Rattle.model.proofs.Members.{delete_absent}
+use Rattle.edge_sets.specs.EdgeSets.{has}
+use Rattle.edge_sets.proofs.Ascents.{insert_held}
+use Rattle.edge_sets.proofs.Members.{delete_absent}
 use Rattle.rows.specs.Flags.{bit_at, flagged}
 use Rattle.rows.proofs.Flagged.{has_flag, no_flag}
 use Rattle.rows.proofs.rows.Rows.seek.Goals as goal

@@ -1,7 +1,7 @@
 use Rattle.std.proofs.Common.{◌≡◌, true, arith}
 use Rattle.std.proofs.lemmas.Bool.Decides.{nat_tests}
-use Rattle.terms.specs.Graph.{is_role}
-use Rattle.model.proofs.BitRows.{has_with}
+use Rattle.edges.specs.Edges.{is_role}
+use Rattle.edge_sets.proofs.BitRows.{has_with}
 use Rattle.stores.proofs.store.Reader.row.Goals as goal
 use Rattle.stores.proofs.store.Reader.row.Goals.{then-holds, else-holds}
 

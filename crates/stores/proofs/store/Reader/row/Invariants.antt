@@ -1,7 +1,7 @@
 use Rattle.std.proofs.Common.{◌≡◌, ℕ, true, ◌&&◌, nat_lt}
-use Rattle.terms.specs.Graph.{edge, is_role}
-use Rattle.model.specs.EdgeSets.{has}
-use Rattle.model.specs.BitRows.{has_role}
+use Rattle.edges.specs.Edges.{edge, is_role}
+use Rattle.edge_sets.specs.EdgeSets.{has}
+use Rattle.edge_sets.specs.BitRows.{has_role}
 use Rattle.stores.proofs.store.Reader.row.Given as goal
 
 -- of the roles before this one, those that the vertex has an edge to

@@ -1,5 +1,0 @@
-use Rattle.books.proofs.Kept.{keeps_none}
-use Rattle.books.proofs.keeping.Keeping.new.Goals as goal
-
-pub returns : goal.returns
-returns c = keeps_none c.none.result 128 c.none.ensures

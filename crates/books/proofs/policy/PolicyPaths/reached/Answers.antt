@@ -1,5 +1,0 @@
-use Rattle.books.specs.Books.{policy_edges}
-use Rattle.books.proofs.policy.PolicyPaths.reached.Goals as goal
-
-pub returns : goal.returns
-returns c = c.first.ensures c.closure.result.word (c.closure.ensures (policy_edges c.args.self.now) c.args.self.now.known)

@@ -1,5 +1,0 @@
-use Rattle.books.specs.Onwards.{Renewed}
-use Rattle.books.proofs.role_paths.RolePaths.renew.Given as goal
-
-abbrev pub invariant-loop-role : goal.invariant-loop-role
-invariant-loop-role g l = Renewed (g.G.Graph.edges l.graph) l.vertex l.initial.self l.role l.self

@@ -1,9 +1,0 @@
--- Which vaults keep which user privileges.
-use Rattle.std.specs.Prelude.{ℕ, ◌-◌, Bool, ◌&&◌, slice_index_or}
-use Rattle.terms.specs.Graph.{is_user_privilege}
-use Rattle.books.specs.declared.keeping.Keeping.{Keeping}
-use Rattle.books.specs.VaultSets.{nobody, has_vault}
-
--- whether vault k keeps privilege p
-abbrev pub keeps : Keeping → ℕ → ℕ → Bool
-keeps ks k p = is_user_privilege p && has_vault (slice_index_or ks.sets (p - 128) nobody) k

@@ -1,0 +1,11 @@
+pub mod Order
+pub mod Members
+pub mod Ascents
+pub mod Ranks
+pub mod Cells
+pub mod Tables
+pub mod SetLaws
+pub mod BitRows
+pub mod Rows
+pub mod Steps
+pub mod Decisions

@@ -1,0 +1,4 @@
+pub mod Edges
+pub mod Kinds
+pub mod LimitRange
+pub mod Texts

@@ -1,2 +1,0 @@
-pub mod Rings
-pub mod Cycles

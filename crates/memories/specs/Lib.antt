@@ -1,2 +1,0 @@
-pub mod Frames
-pub mod Lying

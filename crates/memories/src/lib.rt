@@ -1,6 +1,0 @@
-#![tactic(auto)]
-
-mod frames;
-pub mod makes;
-pub mod slots;
-pub mod strip;

@@ -1,3 +1,0 @@
-mod Named
-mod Orders
-pub mod Agreements

@@ -1,4 +1,0 @@
-#![tactic(auto)]
-
-pub mod laws;
-pub mod privileges;

@@ -1,0 +1,3 @@
+pub mod Declared
+mod Named
+mod Orders

@@ -1,0 +1,4 @@
+pub mod Privileges
+pub mod Declaring
+pub mod Faults
+pub mod Texts

@@ -1,0 +1,3 @@
+pub mod Highest
+pub mod Numbers
+pub mod Texts

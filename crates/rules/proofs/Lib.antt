@@ -1,0 +1,10 @@
+pub mod Messages
+pub mod Rounds
+pub mod Asking
+pub mod Vaults
+pub mod Invariant
+pub mod Deciding
+pub mod Needs
+pub mod Administration
+pub mod Distribution
+pub mod Examples

@@ -1,0 +1,10 @@
+pub mod Faults
+pub mod Installation
+pub mod Sending
+pub mod Questions
+pub mod Outcomes
+pub mod Runs
+pub mod Laws
+pub mod Distribution
+pub mod Examples
+pub mod Texts

@@ -1,3 +1,0 @@
-pub mod Graph
-pub mod Kinds
-pub mod Limits

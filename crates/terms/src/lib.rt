@@ -1,5 +1,0 @@
-#![tactic(auto)]
-
-pub mod edges;
-pub mod kinds;
-pub mod limits;

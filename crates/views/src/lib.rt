@@ -1,9 +1,0 @@
-//! An installation looked at from outside: its vaults, its policy as a picture, its whole state as lines. What
-//! is printed is only tested.
-#![tactic(auto)]
-
-pub mod picture;
-pub mod spelling;
-pub mod state;
-pub mod tables;
-pub mod vault_view;
