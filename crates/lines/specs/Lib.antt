@@ -1,0 +1,14 @@
+pub mod Spelling
+pub mod Reading
+pub mod Lines
+pub mod Columns
+pub mod Tokens
+pub mod Cursors
+pub mod Forms
+pub mod Ends
+pub mod Drafts
+pub mod Writing
+pub mod Laws
+pub mod Adding
+pub mod Faults
+pub mod Texts

@@ -1,4 +1,0 @@
-use Rattle.text.proofs.pen.Pen.+node.Given as goal
-
-abbrev pub decreases-node : goal.decreases-node
-decreases-node l = l.depth

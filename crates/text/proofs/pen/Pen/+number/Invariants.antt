@@ -1,4 +1,0 @@
-use Rattle.text.proofs.pen.Pen.+number.Given as goal
-
-abbrev pub decreases-number : goal.decreases-number
-decreases-number l = l.number

@@ -1,5 +1,0 @@
-use Rattle.text.proofs.Fronts.{within}
-use Rattle.text.proofs.token.Token.new.Goals as goal
-
-pub invariant_of-result : goal.invariant_of-result
-invariant_of-result c = record { within = within c.args.line.now c.front.result.now c.front.ensures }
