@@ -1,23 +1,17 @@
-//! What reads a table: it is shown as an image and opened again, and a session asks it before and
-//! after a withdrawal. Once for each make of store.
-#![tactic(auto)]
-
-use faults::refusal::Refusal;
-use faults::session::SessionFault;
-use images::image::Image;
+use edges::Change;
+use images::Image;
 use images::writer::write;
-use links::link::Link;
-use memories::makes::{Packed, Ring};
-use pairs::pairs::Pairs;
-use rows::rows::Rows;
-use samples::delivery::deliver;
-use samples::edges::{CHAIN, GRANT, MEMBER};
-use sessions::session::Session;
+use links::Link;
+use pairs::Pairs;
+use queues::{Packed, Ring};
+use refusals::Refusal;
+use rows::Rows;
+use sessions::{Session, SessionFault};
 use std::io;
-use stores::store::{Reader, Store};
-use terms::edges::Change;
-use vaults::bank::Bank;
-use vaults::vault::Vault;
+use stores::{Reader, Store};
+use test_support::delivery::deliver;
+use test_support::sample_edges::{CHAIN, GRANT, MEMBER};
+use vaults::{Bank, Vault};
 
 // The bytes of an image in hexadecimal, and how many edges it has when it is opened again.
 fn show_bytes(rt: &HostRuntime, bytes: &[u8]) -> io::Result<()> {
@@ -73,7 +67,7 @@ fn asked_twice<L: Link, S: Store>(
 }
 
 // A table as an image, and a session over it while the privilege is withdrawn.
-fn readings<L: Link, S: Store>(rt: &HostRuntime, bank: &mut (Vault<L, S>, ())) -> io::Result<()> {
+fn read_table<L: Link, S: Store>(rt: &HostRuntime, bank: &mut (Vault<L, S>, ())) -> io::Result<()> {
     println!(rt; "A vault's table, read.")?;
     for edge in [CHAIN, GRANT, MEMBER] {
         let _ = bank.send(0, Change::Add(edge));
@@ -92,15 +86,13 @@ fn readings<L: Link, S: Store>(rt: &HostRuntime, bank: &mut (Vault<L, S>, ())) -
     show_image(rt, &bank.0.store)
 }
 
-fn read_both(rt: &HostRuntime) -> anyhow::Result<()> {
-    let heap = rt.alloc();
-    let first = Vault::<Ring, Rows>::made(heap, 1024, 512)?;
-    readings(rt, &mut (first, ()))?;
-    let second = Vault::<Packed, Pairs>::made(heap, 1024, 512)?;
-    readings(rt, &mut (second, ()))?;
+/// What reads a table: it is shown as an image and opened again, and a session asks it before and after a
+/// withdrawal. Once for each make of store.
+pub fn show(rt: &HostRuntime) -> anyhow::Result<()> {
+    let alloc = rt.alloc();
+    let first = Vault::<Ring, Rows>::new(alloc, 1024, 512)?;
+    read_table(rt, &mut (first, ()))?;
+    let second = Vault::<Packed, Pairs>::new(alloc, 1024, 512)?;
+    read_table(rt, &mut (second, ()))?;
     Ok(())
-}
-
-fn main(rt: HostRuntime) -> anyhow::Result<()> {
-    read_both(&rt)
 }
