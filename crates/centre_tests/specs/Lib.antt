@@ -1,0 +1,2 @@
+pub mod UsersFirst
+pub mod UsersFirstLawful

@@ -1,5 +1,0 @@
-#![tactic(auto)]
-
-pub mod claim;
-pub mod delivery;
-pub mod edges;
