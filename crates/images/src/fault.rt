@@ -27,7 +27,9 @@ impl Refusal for ImageFault {
     }
 
     fn layer(&self) -> Layer {
-        Layer::Text
+        match self {
+            ImageFault::NoImage => Layer::Text,
+        }
     }
 
     fn place(&self) -> Option<Place> {
