@@ -25,9 +25,9 @@ impl Edge {
     pub fn is_edge(&self) -> bool
         ensures { result ≡ is_edge self.now }
     {
-        match (Kind::of(self.from), Kind::of(self.to)) {
-            (Some(Kind::User), Some(to)) => to == Kind::Role,
-            (Some(Kind::Role), Some(to)) => to != Kind::User,
+        match Kind::of(self.from) {
+            Some(Kind::User) => Kind::Role.has(self.to),
+            Some(Kind::Role) => Kind::of(self.to).is_some_and(|to| to != Kind::User),
             _ => false,
         }
     }
