@@ -3,7 +3,7 @@ use Rattle.std.proofs.Common.{◌≡◌, ℕ, zero, suc, ◌<◌, ◌≤◌, tru
 use Rattle.std.proofs.lemmas.Bool.{or_left, or_right, or_from}
 use Rattle.edges.specs.declared.edges.Edge.{Edge}
 use Rattle.edges.specs.Edges.{same, before}
-use Rattle.edge_sets.specs.EdgeSets.{Edges, Ascending, has, no_edge, Lower, Found, Absent}
+use Rattle.edge_sets.specs.EdgeSets.{Edges, Ascending, has, no_edge, Stands, Between, Found, Absent}
 use Rattle.edge_sets.proofs.Order.{same_equal, same_sym, before_trans, before_total, before_differs, before_not_after}
 use Rattle.edge_sets.proofs.Members.{delete_absent}
 use Rattle.edge_sets.proofs.Ascents.{asc_tail, asc_step, asc_first, asc_absent, insert_held}
@@ -72,8 +72,11 @@ absent_at e (d ∷ s) (suc i) h l lower upper =
     outer zero k b = b
     outer (suc j) k b = front_before e d s j h (omega arith) b
 
--- e does not stand at the place from which on no edge comes before e
-pub absent_lower : (e : Edge) (s : Edges) (i : ℕ) → Ascending s → Lower e s i → (i < length s → same (get_or s i no_edge) e ≡ false) → Absent e s i
-absent_lower e s i h q apart =
-    absent_at e s i h q.within q.front
-    (λ l. before_total e (get_or s i no_edge) (same_sym (get_or s i no_edge) e (apart l)) (q.back l))
+-- what a search tells of an ascending list
+pub found : (e : Edge) (s : Edges) (i : ℕ) → Ascending s → Stands e s i → Found e s i
+found e s i h q = found_at e s i h q.0 q.1
+
+pub absent : (e : Edge) (s : Edges) (i : ℕ) → Ascending s → Between e s i → Absent e s i
+absent e s i h q =
+    absent_at e s i h q.within q.lower
+    (λ l. let u = q.upper l in before_total e (get_or s i no_edge) (same_sym (get_or s i no_edge) e u.1) u.0)

@@ -71,7 +71,17 @@ pub record Lower (e : Edge) (s : Edges) (i : ℕ) : Type 0 where
   pub front : (j : ℕ) → i ≡ suc j → before (slice_index_or s j no_edge) e ≡ true
   pub back : i < length s → before (slice_index_or s i no_edge) e ≡ false
 
--- e stands at place i
+-- in any list: e stands at place i
+abbrev pub Stands : Edge → Edges → ℕ → Type 0
+Stands e s i = (i < length s) × (same (slice_index_or s i no_edge) e ≡ true)
+
+-- in any list: e is not at place i, and its neighbours there are on either side of it
+pub record Between (e : Edge) (s : Edges) (i : ℕ) : Type 0 where
+  pub within : i ≤ length s
+  pub lower : (j : ℕ) → i ≡ suc j → before (slice_index_or s j no_edge) e ≡ true
+  pub upper : i < length s → (before (slice_index_or s i no_edge) e ≡ false) × (same (slice_index_or s i no_edge) e ≡ false)
+
+-- in a set: e stands at place i
 pub record Found (e : Edge) (s : Edges) (i : ℕ) : Type 0 where
   pub within : i < length s
   pub is : get_or s i no_edge ≡ e
@@ -79,7 +89,7 @@ pub record Found (e : Edge) (s : Edges) (i : ℕ) : Type 0 where
   pub kept : insert e s ≡ s
   pub out : delete e s ≡ remove s i
 
--- e is absent, and would go to place i
+-- in a set: e is absent, and would go to place i
 pub record Absent (e : Edge) (s : Edges) (i : ℕ) : Type 0 where
   pub within : i ≤ length s
   pub lacks : e ∉ s

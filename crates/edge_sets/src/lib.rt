@@ -6,6 +6,7 @@ pub mod ascending_edges;
 pub mod cell;
 mod front_row;
 pub mod laws;
+pub mod places;
 pub mod roles;
 
 pub use ascending_edges::AscendingEdges;

@@ -1,4 +1,6 @@
 use crate::sample_edges::nth_edge;
+use edge_sets::places::find;
+use edges::Edge;
 use pairs::Pairs;
 use refusals::StoreFault;
 use rows::Rows;
@@ -100,4 +102,40 @@ fn rows(rt: HostRuntime) -> Result<(), Fail> {
 #[test]
 fn pairs(rt: HostRuntime) -> Result<(), Fail> {
     each_way::<Pairs>(&rt)
+}
+
+// Whether a search in a list ends where the edge stands, or where its neighbours are on either side of it.
+fn ends_at_its_place(edges: &[Edge], edge: Edge) -> bool {
+    match find(edges, edge) {
+        Ok(at) => edges.get(at) == Some(&edge),
+        Err(at) => {
+            let (front, behind) = edges.split_at(at);
+            front.last().is_none_or(|e| *e < edge) && behind.first().is_none_or(|e| edge < *e)
+        }
+    }
+}
+
+// Lists that ascend, descend, turn, and have an edge twice.
+#[test]
+fn searches(_rt: HostRuntime) -> Result<(), Fail> {
+    let edges = [pair(2, 64), pair(64, 65), pair(64, 70), pair(127, 128)];
+    let [a, b, c, d] = edges;
+    for edge in [a, b, c, d, pair(0, 64), pair(64, 66), pair(127, 255)] {
+        claim(ends_at_its_place(&[], edge), "in the empty list")?;
+        claim(ends_at_its_place(&edges, edge), "in a list that ascends")?;
+        claim(
+            ends_at_its_place(&[d, c, b, a], edge),
+            "in one that descends",
+        )?;
+        claim(ends_at_its_place(&[c, d, a, b], edge), "in one that turns")?;
+        claim(
+            ends_at_its_place(&[b, b, a, b, b], edge),
+            "with edges twice",
+        )?;
+    }
+    claim(find(&edges, c) == Ok(2), "an edge is found where it stands")?;
+    claim(
+        find(&edges, pair(64, 66)) == Err(2),
+        "and would go between its neighbours",
+    )
 }
