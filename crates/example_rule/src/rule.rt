@@ -4,7 +4,7 @@ ghost use Rattle.example_rule.specs.GrantingLawful.{granting_lawful};
 
 use edges::{Change, Kind};
 use graph::Paths;
-use graph::search::reaches;
+use graph::search::has_path;
 use precedence::Precedence;
 use privileges::Privileges;
 
@@ -22,7 +22,7 @@ fn gives<G: Paths>(policy: &G, held: Change, wanted: Change) -> bool
                 && Kind::Role.has(wanted.from)
                 && Kind::UserPrivilege.has(held.to)
                 && held.to == wanted.to
-                && reaches(policy, wanted.from, held.from)
+                && has_path(policy, wanted.from, held.from)
         }
         _ => false,
     }

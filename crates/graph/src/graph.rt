@@ -4,7 +4,7 @@ ghost use Rattle.edge_sets.specs.BitRows.{Row};
 ghost use Rattle.edge_sets.proofs.Members.{vault_edges};
 ghost use Rattle.graph.specs.Searches.{ReachesRoles};
 
-use crate::search::{closure, first};
+use crate::search::reached;
 use edge_sets::Roles;
 use edges::Edge;
 use stores::Reader;
@@ -49,6 +49,6 @@ pub trait Paths: Graph {
 // A reader searches for them.
 impl<R: Reader> Paths for R {
     fn reached(&self, from: u16) -> Roles {
-        closure(self, first(self, from))
+        reached(self, from)
     }
 }

@@ -56,9 +56,23 @@ fn is_reached<G: Graph>(graph: &G, from: u16, roles: Roles, to: u16) -> bool
     have_edge(graph, roles, to)
 }
 
+/// The roles that a vertex reaches, itself among them if it is a role.
+pub fn reached<G: Graph>(graph: &G, from: u16) -> Roles
+    ensures { ReachesRoles (G.edges graph.now) from result.word }
+{
+    closure(graph, first(graph, from))
+}
+
 /// Whether a vertex reaches another. Every number is answered: one that is no vertex reaches itself
 /// alone.
-pub fn reaches<G: Paths>(graph: &G, from: u16, to: u16) -> bool
+pub fn reaches<G: Graph>(graph: &G, from: u16, to: u16) -> bool
+    ensures { result ≡ reaches (G.edges graph.now) from to }
+{
+    is_reached(graph, from, reached(graph, from), to)
+}
+
+/// The same of a graph that knows its paths: it is asked for what the vertex reaches, and not searched.
+pub fn has_path<G: Paths>(graph: &G, from: u16, to: u16) -> bool
     ensures { result ≡ reaches (G.Graph.edges graph.now) from to }
 {
     is_reached(graph, from, graph.reached(from), to)
@@ -71,7 +85,7 @@ pub fn leading<G: Paths>(graph: &G, to: u16) -> Roles
 {
     let mut roles = Roles::none();
     for role in 64..128u16 {
-        if reaches(graph, role, to) {
+        if has_path(graph, role, to) {
             roles = roles.with(role);
         }
     }

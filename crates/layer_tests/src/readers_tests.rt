@@ -1,3 +1,5 @@
+use graph::Graph;
+use graph::search::{reached, reaches};
 use images::Image;
 use pairs::Pairs;
 use rows::Rows;
@@ -51,6 +53,40 @@ fn tells_rows<R: Reader>(table: &R) -> Result<(), Fail> {
     Ok(())
 }
 
+// What is reached in that table, asked of it as of any graph: a graph need not be a reader to be searched.
+fn is_searched<G: Graph>(graph: &G) -> Result<(), Fail> {
+    for (from, word) in [
+        (0u16, 0x8000_0000_0000_004fu64),
+        (1, 0),
+        (64, 0x4f),
+        (127, 0x8000_0000_0000_0000),
+        (128, 0),
+        (65535, 0),
+    ] {
+        claim(
+            reached(graph, from).word == word,
+            "the roles that a vertex reaches",
+        )?;
+    }
+    for (from, to, answer) in [
+        (0u16, 129u16, true),
+        (0, 70, true),
+        (64, 128, true),
+        (64, 129, false),
+        (0, 254, false),
+        (70, 64, false),
+        (128, 128, true),
+        (65535, 65535, true),
+        (65535, 64, false),
+    ] {
+        claim(
+            reaches(graph, from, to) == answer,
+            "whether a vertex reaches another",
+        )?;
+    }
+    Ok(())
+}
+
 // A vertex with an edge to every role has all bits.
 fn tells_full_row<R: Reader>(table: &R) -> Result<(), Fail> {
     claim(table.row(63).word == u64::MAX, "a full row has all roles")?;
@@ -65,6 +101,7 @@ fn each_way<S: NewStore + Drop>(rt: &HostRuntime) -> Result<(), Fail> {
     let mut store = S::new(alloc, 12)?;
     fill(&mut store)?;
     tells_rows(&store)?;
+    is_searched(&store)?;
     let mut full = S::new(alloc, 64)?;
     for role in 64..128u16 {
         claim(full.put(pair(63, role)) == Ok(()), "an edge is put")?;
@@ -93,6 +130,7 @@ fn images(_rt: HostRuntime) -> Result<(), Fail> {
         return Err(Fail::new("the bytes are an image"));
     };
     tells_rows(&image)?;
+    is_searched(&image)?;
     let Ok(full) = Image::open(&[0, 1, 63, 64, 0, 64]) else {
         return Err(Fail::new("the bytes of a full row are an image"));
     };

@@ -7,7 +7,7 @@ ghost use Rattle.precedence.proofs.Ordering.{rules_lawful};
 
 use edges::{Change, Edge, Kind};
 use graph::Paths;
-use graph::search::reaches;
+use graph::search::has_path;
 use precedence::Precedence;
 use privileges::Privileges;
 
@@ -25,7 +25,7 @@ fn leads_on<G: Paths>(policy: &G, held: Edge, wanted: Edge) -> bool
         ≡ (all_subjects held wanted && reaches (G.Graph.edges policy.now) held.to wanted.to) }
 {
     let subjects = held.from < 128 && held.to < 128 && wanted.from < 128 && wanted.to < 128;
-    subjects && reaches(policy, held.to, wanted.to)
+    subjects && has_path(policy, held.to, wanted.to)
 }
 
 // Whether both edges go from a role.
@@ -77,7 +77,7 @@ fn adds_over<G: Paths>(
 ) -> bool
     ensures { result ≡ stronger privileges.now (G.Graph.edges policy.now) depth held wanted }
 {
-    if !reaches(policy, wanted.from, held.from) {
+    if !has_path(policy, wanted.from, held.from) {
         return false;
     }
     if leads_on(policy, held, wanted) {
