@@ -162,6 +162,48 @@ in_some p a n v l m h =
     let e : get_or (range_with_len a n) (v - a) 0 ≡ v = get_or-range_with_len a n (v - a) 0 (omega arith) ∙ omega arith in
     list_any_at p (range_with_len a n) (v - a) 0 (omega (arith, length-range_with_len a n)) (ap p e ∙ h)
 
+-- The search for an edge to a vertex: none of the roles that were asked has one.
+pub record Asking (s : Edges) (to asked : ℕ) : Type 0 where
+  pub word : asked < 2 ^ 64
+  pub none : (v : ℕ) → has_role asked v ≡ true → has s (edge v to) ≡ false
+
+pub asking_begins : (s : Edges) (to : ℕ) → Asking s to 0
+asking_begins s to = record { word = omega arith; none = λ v h. absurd (both_ways (has_role 0 v) (has_none v) h) }
+
+-- a role of w that was not asked yet
+beyond_role : (w asked v : ℕ) → is_beyond w asked v ≡ true → has_role w v ≡ true
+beyond_role w asked v h = (and_parts (has_role w v) (not (has_role asked v)) h).0
+
+pub asking_goes_on : (s : Edges) (to w asked v : ℕ) → Asking s to asked → is_beyond w asked v ≡ true → has s (edge v to) ≡ false → Asking s to (bit_or asked (role_word v))
+asking_goes_on s to w asked v x h n =
+    let role : is_role v ≡ true = a_role w v (beyond_role w asked v h) in
+    record {
+      word = still_word asked v x.word role;
+      none = λ u b.
+          ⊎_elim (x.none u) (λ (q : eqb u v ≡ true). subst (λ (i : ℕ). has s (edge i to) ≡ false) (sym (eqb-true u v q)) n)
+          (or_cases (has_role asked u) (eqb u v) (sym (has_with asked v u role) ∙ b));
+    }
+
+pub asking_finds : (s : Edges) (to w asked v : ℕ) → is_beyond w asked v ≡ true → has s (edge v to) ≡ true → true ≡ edge_from s w to
+asking_finds s to w asked v h e =
+    let b : has_role w v ≡ true = beyond_role w asked v h in
+    let o : is_role v ≡ true = a_role w v b in
+    let low : 64 ≤ v = grind (arith, nat_tests) in
+    let high : v < 128 = grind (arith, nat_tests) in
+    sym (in_some (λ (x : ℕ). has_role w x && has s (edge x to)) 64 64 v low high (and_from (has_role w v) _ b e))
+
+pub asking_ends : (s : Edges) (to w asked : ℕ) → Asking s to asked → ((v : ℕ) → is_beyond w asked v ≡ false) → false ≡ edge_from s w to
+asking_ends s to w asked x n = sym (false_from_ne_true (edge_from s w to) nowhere)
+  where
+    all : (v : ℕ) → has_role w v ≡ true → has_role asked v ≡ true
+    all v h = true_from_ne_false (has_role asked v) (λ k. both_ways (is_beyond w asked v) (n v) (and_from (has_role w v) _ h (not_from_false (has_role asked v) k)))
+
+    nowhere : edge_from s w to ≡ true → ⊥
+    nowhere q =
+        let y = some_in (λ (v : ℕ). has_role w v && has s (edge v to)) 64 64 q in
+        let z = and_parts (has_role w y.0) (has s (edge y.0 to)) y.1 in
+        both_ways (has s (edge y.0 to)) (x.none y.0 (all y.0 z.0)) z.1
+
 pub reaches_other : (s : Edges) (a b r : ℕ) → all_edges s ≡ true → a ≢ b → is_role b ≡ false → ReachesRoles s a r → edge_from s r b ≡ reaches s a b
 reaches_other s a b r f n h c = same_from_decides (edge_from s r b) (reaches s a b) (there, back) (paths_decided s a b)
   where

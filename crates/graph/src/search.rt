@@ -21,11 +21,18 @@ pub fn closure<G: Graph>(graph: &G, roles: Roles) -> Roles
     seen
 }
 
-// Whether one of some roles has an edge to a vertex.
+// Whether one of some roles has an edge to a vertex. Only these are asked, one after another.
 fn have_edge<G: Graph>(graph: &G, roles: Roles, to: u16) -> bool
     ensures { result ≡ edge_from (G.edges graph.now) roles.word to }
 {
-    (64..128u16).any(|role| roles.has(role) && graph.holds(Edge { from: role, to }))
+    let mut asked = Roles::none();
+    while let Some(role) = roles.beyond(asked) {
+        if graph.holds(Edge { from: role, to }) {
+            return true;
+        }
+        asked = asked.with(role);
+    }
+    false
 }
 
 /// The roles to begin with: a role itself, or those that any other vertex has an edge to.
